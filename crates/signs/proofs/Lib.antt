@@ -1,0 +1,6 @@
+pub mod Sums
+pub mod Answers
+pub mod Powers
+pub mod Blocks
+pub mod Cover
+pub mod Shifts

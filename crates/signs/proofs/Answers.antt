@@ -20,7 +20,12 @@ pub refused : {A : Type 0} (r : Refusal) (x : A) (f : Fault) → answer r x ≡ 
 refused (Some g) x f e = cc
 refused None x f e = let z : _≡_ {A = ℕ} 0 1 = cc in absurd (let w : ⊥ = omega arith in w)
 
--- where two checks pass, the second does
+-- where two checks pass, each does
+
+pub first-none : (r q : Refusal) → (r ⨾ q) ≡ None → r ≡ None
+first-none (Some f) q e = let z : _≡_ {A = ℕ} 0 1 = cc in absurd (let w : ⊥ = omega arith in w)
+first-none None q e = refl
+
 pub then-none : (r q : Refusal) → (r ⨾ q) ≡ None → q ≡ None
 then-none (Some f) q e = let z : _≡_ {A = ℕ} 0 1 = cc in absurd (let w : ⊥ = omega arith in w)
 then-none None q e = e

@@ -6,12 +6,13 @@ use native.Mathlib.Omega.{arith}
 use lib.Pow.{pow-pos, pow-add, pow-mono}
 use lib.IntN.{ℤ, _+ℤ_}
 use Rattle.std.proofs.shelf.Bits.{one-shl}
+use Rattle.std.specs.declared.option.Option.the-variants.{None}
 use Rattle.std.specs.declared.result.Result.{Result}
 use Rattle.std.specs.declared.result.Result.the-variants.{Ok, Err}
 use Rattle.signs.specs.declared.faults.Fault.{Fault}
 use Rattle.signs.specs.Faults.{_⨾_, answer}
-use Rattle.signs.specs.Family.{Meaning, Lawful, value, signSum, seedCheck, blockCheck, blockAnswer, intervalCheck, intervalAnswer}
-use Rattle.signs.proofs.Answers.{seed-passed, there-seed, Block, block-passed, there-block, Interval, there-interval}
+use Rattle.signs.specs.Family.{Meaning, Lawful, value, signSum, blockSum, intervalSum, seedCheck, slotCheck, signAnswer, blockCheck, blockRefusal, blockAnswer, intervalCheck, intervalAnswer}
+use Rattle.signs.proofs.Answers.{seed-passed, there-seed, there-slot, Block, block-passed, there-block, Interval, there-interval}
 use Rattle.signs.proofs.Powers.{exponent-le}
 use Rattle.signs.proofs.Sums.{run-append}
 
@@ -29,15 +30,22 @@ block-run n j q l h =
     let m : suc q * 2 ^ j ≤ 2 ^ (n - j) * 2 ^ j = mul-le-mul-right (2 ^ j) h in
     omega (arith, suc-mul q (2 ^ j))
 
-pub block-ok : (F : Meaning) (s j q : ℕ) → s < F .seeds → Block (F .width) j q → blockAnswer F s j q ≡ Ok (signSum F s (q * 2 ^ j) (2 ^ j))
-block-ok F s j q hs b =
-    let z = signSum F s (q * 2 ^ j) (2 ^ j) in
-    ap (λ r. answer (r ⨾ blockCheck (F .width) j q) z) (there-seed (F .seeds) s hs) ∙ ap (λ r. answer r z) (there-block (F .width) j q b)
+-- what is there is not refused
 
-pub interval-ok : (F : Meaning) (s a b : ℕ) → s < F .seeds → Interval (F .width) a b → intervalAnswer F s a b ≡ Ok (signSum F s a (b - a))
-interval-ok F s a b hs i =
-    let z = signSum F s a (b - a) in
-    ap (λ r. answer (r ⨾ intervalCheck (F .width) a b) z) (there-seed (F .seeds) s hs) ∙ ap (λ r. answer r z) (there-interval (F .width) a b i)
+pub sign-ok : (F : Meaning) (s i : ℕ) → s < F .seeds → i < 2 ^ F .width → signAnswer F s i ≡ Ok (F .sign s i)
+sign-ok F s i h l =
+    ap (λ r. answer (r ⨾ slotCheck (F .width) i) (F .sign s i)) (there-seed (F .seeds) s h) ∙ ap (λ r. answer r (F .sign s i)) (there-slot (F .width) i l)
+
+pub block-accepted : (F : Meaning) (s j q : ℕ) → s < F .seeds → Block (F .width) j q → blockRefusal F s j q ≡ None
+block-accepted F s j q h b = ap (λ r. r ⨾ blockCheck (F .width) j q) (there-seed (F .seeds) s h) ∙ there-block (F .width) j q b
+
+pub block-ok : (F : Meaning) (s j q : ℕ) → s < F .seeds → Block (F .width) j q → blockAnswer F s j q ≡ Ok (blockSum F s j q)
+block-ok F s j q h b = ap (λ r. answer r (blockSum F s j q)) (block-accepted F s j q h b)
+
+pub interval-ok : (F : Meaning) (s a b : ℕ) → s < F .seeds → Interval (F .width) a b → intervalAnswer F s a b ≡ Ok (intervalSum F s a b)
+interval-ok F s a b h i =
+    let z = intervalSum F s a b in
+    ap (λ r. answer (r ⨾ intervalCheck (F .width) a b) z) (there-seed (F .seeds) s h) ∙ ap (λ r. answer r z) (there-interval (F .width) a b i)
 
 abbrev pub ok : ℤ → Result ℤ Fault
 ok z = Ok z

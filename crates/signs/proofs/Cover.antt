@@ -11,8 +11,8 @@ use lib.Pow.{pow-pos, pow-mono}
 use Rattle.std.proofs.shelf.Tests.{cases-lt, and-parts, and-from, eqb-true, eq-eqb, leb-true, le-leb, lt-ltb, le-ltb, both-ways, cond-true, cond-false}
 use Rattle.std.specs.declared.option.Option.the-variants.{Some, None}
 use Rattle.signs.specs.Cover.{fitsAt, levelAt, coverSum, coverAnswer}
-use Rattle.signs.specs.Faults.{Refusal, _⨾_, answer}
-use Rattle.signs.specs.Family.{Meaning, Lawful, value, blockSum, intervalSum, seedCheck, intervalCheck, intervalAnswer}
+use Rattle.signs.specs.Faults.{Refusal, answer}
+use Rattle.signs.specs.Family.{Meaning, Lawful, value, blockSum, intervalSum, seedCheck, intervalCheck, intervalRefusal, intervalAnswer}
 use Rattle.signs.proofs.Answers.{then-none, interval-there}
 use Rattle.signs.proofs.Blocks.{ok, block-number}
 use Rattle.signs.proofs.Sums.{run, run-append, sum-none}
@@ -139,10 +139,9 @@ cover-is rule f n some sums (suc k) a b few g = pick (λ x. cover-is rule f n so
 
 -- so the answer of an interval is that of its blocks
 pub cover-answer : (F : Meaning) → Lawful F → (s a b : ℕ) → intervalAnswer F s a b ≡ coverAnswer F s a b
-cover-answer F L s a b = pick (seedCheck (F .seeds) s ⨾ intervalCheck (F .width) a b) refl
+cover-answer F L s a b = pick (intervalRefusal F s a b) refl
   where
-    pick : (r : Refusal) → (seedCheck (F .seeds) s ⨾ intervalCheck (F .width) a b) ≡ r
-        → answer r (intervalSum F s a b) ≡ answer r (coverSum (blockSum F s) (F .width) (2 * F .width) a b)
+    pick : (r : Refusal) → intervalRefusal F s a b ≡ r → answer r (intervalSum F s a b) ≡ answer r (coverSum (blockSum F s) (F .width) (2 * F .width) a b)
     pick (Some x) e = refl
     pick None e =
         let i = interval-there (F .width) a b (then-none (seedCheck (F .seeds) s) (intervalCheck (F .width) a b) e) in

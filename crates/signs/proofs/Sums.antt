@@ -43,6 +43,10 @@ pub run-append : (f : ℕ → ℤ) (a m n : ℕ) → run f a (m + n) ≡ run f a
 run-append f a m n =
     sum-split m n (λ k. f (a + k)) ∙ ap (λ z. run f a m +ℤ z) (sum-ext n _ _ (λ k l. ap f (sym (add-assoc a m k))))
 
+pub value-abs : (s : Sign) → natAbs (value s) ≡ 1
+value-abs Plus = refl
+value-abs Minus = refl
+
 -- a sum of n signs is at most n in size
 pub signs-abs : (n : ℕ) (f : ℕ → Sign) → natAbs (sum n (λ k. value (f k))) ≤ n
 unfolding sum
@@ -52,3 +56,9 @@ signs-abs (suc n) f = more (f n) (signs-abs n f)
     more : (s : Sign) → natAbs (sum n (λ k. value (f k))) ≤ n → natAbs (sum n (λ k. value (f k)) +ℤ value s) ≤ suc n
     more Plus h = omega (arith, ints)
     more Minus h = omega (arith, ints)
+
+-- only the numbers below the end are tested
+pub count-ext : (n : ℕ) (p q : ℕ → Bool) → ((k : ℕ) → k < n → p k ≡ q k) → count n p ≡ count n q
+unfolding count
+count-ext zero p q h = refl
+count-ext (suc n) p q h = ap₂ _+_ (count-ext n p q (λ k l. h k (omega arith))) (ap (λ t. cond t 1 0) (h n (omega arith)))

@@ -5,8 +5,8 @@ use lib.Dec.{eqb, ltb, leb}
 use lib.IntN.{ℤ, pos, _+ℤ_}
 use Rattle.std.specs.declared.result.Result.{Result}
 use Rattle.signs.specs.declared.faults.Fault.{Fault}
-use Rattle.signs.specs.Faults.{_⨾_, answer}
-use Rattle.signs.specs.Family.{Meaning, blockSum, seedCheck, intervalCheck}
+use Rattle.signs.specs.Faults.{answer}
+use Rattle.signs.specs.Family.{Meaning, blockSum, intervalRefusal}
 
 -- a block of level j starts at slot a and does not pass b
 abbrev pub fitsAt : ℕ → ℕ → ℕ → Bool
@@ -26,4 +26,4 @@ coverSum rule n (suc most) a b =
 
 -- the interval's sum so taken, of at most 2 n blocks at width n
 abbrev pub coverAnswer : Meaning → ℕ → ℕ → ℕ → Result ℤ Fault
-coverAnswer F s a b = answer (seedCheck (F .seeds) s ⨾ intervalCheck (F .width) a b) (coverSum (blockSum F s) (F .width) (2 * F .width) a b)
+coverAnswer F s a b = answer (intervalRefusal F s a b) (coverSum (blockSum F s) (F .width) (2 * F .width) a b)

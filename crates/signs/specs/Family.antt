@@ -75,13 +75,22 @@ blockCheck width j q = refuseIf (ltb width j || leb (2 ^ (width - j)) q) (family
 abbrev pub intervalCheck : ℕ → ℕ → ℕ → Refusal
 intervalCheck width a b = refuseIf (leb b a || ltb (2 ^ width) b) (familyFault Interval 0)
 
--- The answers.
+-- The refusals and the answers.
+
+abbrev pub signRefusal : Meaning → ℕ → ℕ → Refusal
+signRefusal F s i = seedCheck (F .seeds) s ⨾ slotCheck (F .width) i
 
 abbrev pub signAnswer : Meaning → ℕ → ℕ → Result Sign Fault
-signAnswer F s i = answer (seedCheck (F .seeds) s ⨾ slotCheck (F .width) i) (F .sign s i)
+signAnswer F s i = answer (signRefusal F s i) (F .sign s i)
+
+abbrev pub blockRefusal : Meaning → ℕ → ℕ → ℕ → Refusal
+blockRefusal F s j q = seedCheck (F .seeds) s ⨾ blockCheck (F .width) j q
 
 abbrev pub blockAnswer : Meaning → ℕ → ℕ → ℕ → Result ℤ Fault
-blockAnswer F s j q = answer (seedCheck (F .seeds) s ⨾ blockCheck (F .width) j q) (blockSum F s j q)
+blockAnswer F s j q = answer (blockRefusal F s j q) (blockSum F s j q)
+
+abbrev pub intervalRefusal : Meaning → ℕ → ℕ → ℕ → Refusal
+intervalRefusal F s a b = seedCheck (F .seeds) s ⨾ intervalCheck (F .width) a b
 
 abbrev pub intervalAnswer : Meaning → ℕ → ℕ → ℕ → Result ℤ Fault
-intervalAnswer F s a b = answer (seedCheck (F .seeds) s ⨾ intervalCheck (F .width) a b) (intervalSum F s a b)
+intervalAnswer F s a b = answer (intervalRefusal F s a b) (intervalSum F s a b)

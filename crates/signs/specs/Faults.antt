@@ -1,6 +1,6 @@
 -- Faults, and how the checks of a call follow one another. Assumes nothing.
 use mathlib.Core.Bool.{Bool, true, false}
-use Prim.Native.Nat.{ℕ}
+use Prim.Native.Nat.{ℕ, zero, suc}
 use Rattle.std.specs.declared.option.Option.{Option}
 use Rattle.std.specs.declared.option.Option.the-variants.{Some, None}
 use Rattle.std.specs.declared.result.Result.{Result}
@@ -56,6 +56,11 @@ infixr 20 _⨾_
 abbrev pub _⨾_ : Refusal → Refusal → Refusal
 Some f ⨾ next = Some f
 None ⨾ next = next
+
+-- the checks of 0, 1, .. n - 1, in this order
+unfoldable pub checkEach : ℕ → (ℕ → Refusal) → Refusal
+checkEach zero check = None
+checkEach (suc n) check = checkEach n check ⨾ check n
 
 -- what a call answers: its fault, or else the value
 abbrev pub answer : {A : Type 0} → Refusal → A → Result A Fault

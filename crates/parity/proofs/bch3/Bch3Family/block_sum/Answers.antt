@@ -1,0 +1,37 @@
+use mathlib.Core.Path.{_≡_, refl, sym, ap, _∙_}
+use native.Mathlib.Omega.{arith}
+use Prim.Native.Nat.{ℕ, _+_, _*_, _^_, _≤_, _<_}
+use lib.Pow.{pow-pos}
+use mir.Val.{SFits}
+use mir.Syntax.{w64}
+use Rattle.std.proofs.shelf.Signed.{toZ-ofZ}
+use Rattle.std.specs.declared.result.Result.{Result}
+use Rattle.signs.specs.declared.faults.Fault.{Fault}
+use Rattle.signs.specs.Faults.{answer}
+use Rattle.signs.specs.Family.{blockRefusal}
+use Rattle.signs.proofs.Blocks.{ok, asked, block-accepted}
+use Rattle.parity.specs.Parity.{bch3, bch3BlockSum}
+use Rattle.parity.proofs.Bch3Sums.{bch3-rule}
+use Rattle.parity.proofs.bch3.Bch3Family.block_sum.Needs as need
+
+pub closed-sum-requires : need.closed-sum-requires
+closed-sum-requires c κs =
+    let n = c .args .self .now .width in
+    let a = asked n (2 ^ (n + 1)) _ _ _ _ _ _ _ (omega arith) refl (c .seed-count .ensures) (c .in-Continue-check-seed .ensures tt) (c .in-Continue-check-block .ensures tt) in
+    let b = a .block .level in
+    let r = a .shift .run in
+    let f = a .shift .few in
+    record { level = omega arith; number = omega (arith, pow-pos (c .args .level)) }
+
+pub returns : need.returns
+returns c =
+    let n = c .args .self .now .width in
+    let s = c .args .seed in
+    let j = c .args .level in
+    let q = c .args .number in
+    let a = asked n (2 ^ (n + 1)) _ _ _ _ _ _ _ (omega arith) refl (c .seed-count .ensures) (c .in-Continue-check-seed .ensures tt) (c .in-Continue-check-block .ensures tt) in
+    let fits : SFits w64 (c .closed-sum .result) = record { sfits = c .closed-sum .ok } in
+    let closed : ok _ ≡ answer (blockRefusal (bch3 n) s j q) (bch3BlockSum s j q) =
+    ap ok (toZ-ofZ w64 (c .closed-sum .result) fits ∙ c .closed-sum .ensures)
+    ∙ sym (ap (λ r. answer r (bch3BlockSum s j q)) (block-accepted (bch3 n) s j q (a .seed) (a .block))) in
+    record { is = closed ∙ ap (answer (blockRefusal (bch3 n) s j q)) (bch3-rule n s j q); closed = closed }

@@ -15,6 +15,11 @@ pub accepted : {A : Type 0} (r : Refusal) (x y : A) → answer r x ≡ Ok y → 
 accepted (Some f) x y e = let z : _≡_ {A = ℕ} 0 1 = cc in absurd (let w : ⊥ = omega arith in w)
 accepted None x y e = refl
 
+-- and then the value is the one that the answer holds
+pub said : {A : Type 0} (r : Refusal) (x y : A) → Ok y ≡ answer r x → y ≡ x
+said (Some f) x y e = let z : _≡_ {A = ℕ} 0 1 = cc in absurd (let w : ⊥ = omega arith in w)
+said None x y e = cc
+
 -- the first check that refused
 pub refused : {A : Type 0} (r : Refusal) (x : A) (f : Fault) → answer r x ≡ Err f → r ≡ Some f
 refused (Some g) x f e = cc
@@ -48,9 +53,11 @@ pub record Block (width j q : ℕ) : Type 0 where
   pub level : j ≤ width
   pub number : q < 2 ^ (width - j)
 
+pub block-there : (width j q : ℕ) → blockCheck width j q ≡ None → Block width j q
+block-there width j q e = record { level = grind (arith, tells); number = grind (arith, tells) }
+
 pub block-passed : (width j q : ℕ) (x : Unit {0}) → Ok x ≡ answer (blockCheck width j q) tt → Block width j q
-block-passed width j q x e =
-    let p = accepted (blockCheck width j q) tt x (sym e) in record { level = grind (arith, tells); number = grind (arith, tells) }
+block-passed width j q x e = block-there width j q (accepted (blockCheck width j q) tt x (sym e))
 
 pub there-block : (width j q : ℕ) → Block width j q → blockCheck width j q ≡ None
 there-block width j q b = grind (arith, tells)

@@ -4,7 +4,7 @@ use Prim.Native.Nat.{ℕ, zero, suc, _+_, _-_, _*_, _/_, _%_, _^_, _≤_, _<_}
 use native.Mathlib.Nat.{div-lt-iff-lt-mul, sub-add-cancel, mul-le-mul-right, suc-mul, div-add-mod', mod-eq-of-lt}
 use native.Mathlib.Omega.{arith}
 use lib.Pow.{pow-pos, pow-add, pow-mono}
-use lib.IntN.{ℤ, _+ℤ_}
+use lib.IntN.{ℤ, natAbs, _+ℤ_}
 use Rattle.std.proofs.shelf.Bits.{one-shl}
 use Rattle.std.specs.declared.option.Option.the-variants.{None}
 use Rattle.std.specs.declared.result.Result.{Result}
@@ -12,9 +12,9 @@ use Rattle.std.specs.declared.result.Result.the-variants.{Ok, Err}
 use Rattle.signs.specs.declared.faults.Fault.{Fault}
 use Rattle.signs.specs.Faults.{_⨾_, answer}
 use Rattle.signs.specs.Family.{Meaning, Lawful, value, signSum, blockSum, intervalSum, seedCheck, slotCheck, signAnswer, blockCheck, blockRefusal, blockAnswer, intervalCheck, intervalAnswer}
-use Rattle.signs.proofs.Answers.{seed-passed, there-seed, there-slot, Block, block-passed, there-block, Interval, there-interval}
+use Rattle.signs.proofs.Answers.{accepted, said, then-none, seed-passed, there-seed, there-slot, Block, block-there, block-passed, there-block, Interval, there-interval}
 use Rattle.signs.proofs.Powers.{exponent-le}
-use Rattle.signs.proofs.Sums.{run-append}
+use Rattle.signs.proofs.Sums.{run-append, signs-abs}
 
 -- the block of level j that starts at slot a
 pub block-number : (n j a : ℕ) → a + 2 ^ j ≤ 2 ^ n → (j ≤ n) × (a / 2 ^ j < 2 ^ (n - j))
@@ -82,6 +82,22 @@ shifts n j q h b =
       run = run;
       few = few;
     }
+
+-- a block sum that was answered: it is the block's, and small
+pub record Answered (F : Meaning) (s j q : ℕ) (x : ℤ) : Type 0 where
+  pub passed : blockRefusal F s j q ≡ None
+  pub is : x ≡ blockSum F s j q
+  pub small : natAbs x ≤ 2 ^ 24
+
+pub answered : (F : Meaning) → Lawful F → (s j q : ℕ) (x : ℤ) → Ok x ≡ blockAnswer F s j q → Answered F s j q x
+answered F L s j q x e =
+    let passed = accepted (blockRefusal F s j q) (blockSum F s j q) x (sym e) in
+    let b = block-there (F .width) j q (then-none (seedCheck (F .seeds) s) (blockCheck (F .width) j q) passed) in
+    let is = said (blockRefusal F s j q) (blockSum F s j q) x e in
+    let size = signs-abs (2 ^ j) (λ k. F .sign s (q * 2 ^ j + k)) in
+    let few : 2 ^ j ≤ 2 ^ 24 = pow-mono {i = j} {j = 24} (let l = b .level in omega (arith, L .narrow)) in
+    let abs : natAbs x ≡ natAbs (blockSum F s j q) = ap natAbs is in
+    record { passed = passed; is = is; small = omega arith }
 
 -- a block that was asked for and passed the checks, by the numbers w and m that the code has for width and seeds
 pub record Asked (n seeds s j q : ℕ) : Type 0 where

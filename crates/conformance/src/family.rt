@@ -17,7 +17,7 @@ use std::alloc::Global;
 
 /// A family of any kind, under no, one or two offset layers.
 #[derive(Drop)]
-pub enum Family {
+pub(crate) enum Family {
     Bch3(Bch3),
     Bch3Once(Offset<Bch3>),
     Bch3Twice(Offset<Offset<Bch3>>),
@@ -47,23 +47,23 @@ macro_rules! ask {
 }
 
 impl Family {
-    pub fn width(&self) -> u32 {
+    pub(crate) fn width(&self) -> u32 {
         ask!(self, f => f.width())
     }
 
-    pub fn seed_count(&self) -> u64 {
+    pub(crate) fn seed_count(&self) -> u64 {
         ask!(self, f => f.seed_count())
     }
 
-    pub fn sign(&self, seed: u64, slot: u32) -> Result<Sign, Fault> {
+    pub(crate) fn sign(&self, seed: u64, slot: u32) -> Result<Sign, Fault> {
         ask!(self, f => f.sign(seed, slot))
     }
 
-    pub fn block_sum(&self, seed: u64, level: u32, number: u32) -> Result<i64, Fault> {
+    pub(crate) fn block_sum(&self, seed: u64, level: u32, number: u32) -> Result<i64, Fault> {
         ask!(self, f => f.block_sum(seed, level, number))
     }
 
-    pub fn interval_sum(&self, seed: u64, a: u32, b: u32) -> Result<i64, Fault> {
+    pub(crate) fn interval_sum(&self, seed: u64, a: u32, b: u32) -> Result<i64, Fault> {
         ask!(self, f => interval_sum(f, seed, a, b))
     }
 
@@ -143,7 +143,10 @@ fn layered(
 }
 
 /// The family that a line names: None where it names none.
-pub fn read(heap: Global, words: &[&str]) -> Result<Option<Result<Family, Fault>>, AllocError> {
+pub(crate) fn read(
+    heap: Global,
+    words: &[&str],
+) -> Result<Option<Result<Family, Fault>>, AllocError> {
     match named(heap, words)? {
         Some((family, k)) => Ok(layered(family, words, k)),
         None => Ok(None),

@@ -3,11 +3,11 @@ ghost use Rattle.std.specs.Options.{Cases as BySome};
 use std::alloc::AllocError;
 use std::alloc::Global;
 
-pub fn u32_at(words: &[&str], k: usize) -> Option<u32> {
+pub(crate) fn u32_at(words: &[&str], k: usize) -> Option<u32> {
     words.get(k).copied()?.parse::<u32>().ok()
 }
 
-pub fn u64_at(words: &[&str], k: usize) -> Option<u64> {
+pub(crate) fn u64_at(words: &[&str], k: usize) -> Option<u64> {
     words.get(k).copied()?.parse::<u64>().ok()
 }
 
@@ -22,7 +22,7 @@ fn digit(byte: u8) -> Option<u8>
 }
 
 /// The bytes of a word of hexadecimal digits, two to a byte; `-` has none.
-pub fn bytes_of(heap: Global, word: &str) -> Result<Option<Vec<u8>>, AllocError> {
+pub(crate) fn bytes_of(heap: Global, word: &str) -> Result<Option<Vec<u8>>, AllocError> {
     let mut bytes = Vec::new(heap);
     if word == "-" {
         return Ok(Some(bytes));

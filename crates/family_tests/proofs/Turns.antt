@@ -1,8 +1,8 @@
 -- Turned signs: what stays, and the sum. Assumes nothing.
 use mathlib.Core.Path.{_≡_, refl, ap, _∙_}
-use Prim.Native.Nat.{ℕ, zero, suc, _+_, _*_, _^_}
+use Prim.Native.Nat.{ℕ, zero, suc, _*_}
 use native.Mathlib.Omega.{arith}
-use lib.IntN.{ℤ, negℤ, _+ℤ_}
+use lib.IntN.{negℤ}
 use Rattle.std.proofs.shelf.Signed.{ints}
 use Rattle.signs.specs.declared.family.Sign.{Sign}
 use Rattle.signs.specs.declared.family.Sign.the-variants.{Plus, Minus}

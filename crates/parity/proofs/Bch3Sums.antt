@@ -1,8 +1,7 @@
 -- BCH3: the closed rule gives the sum of the signs, by the lowest bit. Assumes nothing.
-use mathlib.Core.Path.{_≡_, refl, sym, ap, _∙_}
-use mathlib.Core.Bool.{cond}
+use mathlib.Core.Path.{_≡_, sym, ap, _∙_}
 use mathlib.Core.Logic.{_⊎_, inl, inr, _≢_}
-use Prim.Native.Nat.{ℕ, zero, suc, _+_, _*_, _/_, _%_, _^_, _<_}
+use Prim.Native.Nat.{ℕ, zero, suc, _+_, _*_, _/_, _%_, _^_}
 use native.Mathlib.Nat.{pow-suc, mul-assoc, mul-comm, add-zero}
 use native.Mathlib.Omega.{arith}
 use lib.Dec.{eqb}
@@ -15,8 +14,8 @@ use Rattle.signs.specs.Sums.{sum}
 use Rattle.signs.specs.Family.{value, blockSum}
 use Rattle.signs.proofs.Powers.{mod-half, parity}
 use Rattle.signs.proofs.Sums.{run, sum-ext}
-use Rattle.parity.specs.Parity.{signBy, bch3, bch3Sign, bch3BlockSum}
-use Rattle.parity.proofs.Parity.{sign-like, sign-unlike, dot, dot-even, dot-odd, run-double, run-cancel}
+use Rattle.parity.specs.Parity.{signBy, bch3, bch3BlockSum}
+use Rattle.parity.proofs.Parity.{sign-unlike, dot, dot-even, dot-odd, run-double, run-cancel}
 
 -- the signs of a seed with the other bits a, from a number c of ones on, over block q of level j
 abbrev signs : ℕ → ℕ → ℕ → ℤ

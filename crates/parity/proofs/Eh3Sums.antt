@@ -108,61 +108,25 @@ term-abs n x = size (signBy x)
     size Minus = omega (arith, ints)
 
 -- the four slots of a pair, whose bits in the seed are lo and hi: three have one sign, and one the other
-four : (n x lo hi z : ℕ) → (lo ≡ 0) ⊎ (lo ≡ 1) → (hi ≡ 0) ⊎ (hi ≡ 1) → z ≡ holds (hi + lo)
-    → (term n (x + 0) +ℤ term n (x + (hi + 1))) +ℤ (term n (x + (lo + 1)) +ℤ term n (x + (lo + hi + 1))) ≡ term (n * 2) (x + 1 + z)
-four n x lo hi z p q e = pick p q
-  where
-    less : term n x +ℤ term n (x + 1) ≡ pos 0
-    less = opposite n (signBy x) (signBy (x + 1)) (sign-unlike x (x + 1) (let r : x % 2 ≡ (x + 1 + 1) % 2 = omega arith in r))
+module _ (n x : ℕ) where
+  less : term n (x + 0) +ℤ term n (x + 1) ≡ pos 0
+  less = opposite n (signBy (x + 0)) (signBy (x + 1)) (sign-unlike (x + 0) (x + 1) (let r : (x + 0) % 2 ≡ (x + 1 + 1) % 2 = omega arith in r))
 
-    like : (u v : ℕ) → (x + u) % 2 ≡ (x + v) % 2 → term n (x + u) ≡ term n (x + v)
-    like u v r = term-like n (x + u) (x + v) r
+  two : term n (x + 2) ≡ term n (x + 0)
+  two = term-like n (x + 2) (x + 0) (let r : (x + 2) % 2 ≡ (x + 0) % 2 = omega arith in r)
 
-    same : (u : ℕ) → (x + u) % 2 ≡ x % 2 → term n (x + u) ≡ term n x
-    same u r = term-like n (x + u) x r
+  three : term n (x + 3) ≡ term n (x + 1)
+  three = term-like n (x + 3) (x + 1) (let r : (x + 3) % 2 ≡ (x + 1) % 2 = omega arith in r)
 
-    pick : (lo ≡ 0) ⊎ (lo ≡ 1) → (hi ≡ 0) ⊎ (hi ≡ 1)
-        → (term n (x + 0) +ℤ term n (x + (hi + 1))) +ℤ (term n (x + (lo + 1)) +ℤ term n (x + (lo + hi + 1))) ≡ term (n * 2) (x + 1 + z)
-    pick (inl p) (inl q) =
-        let h = holds-none (hi + lo) (omega arith) in
-        let a = like (hi + 1) 1 (omega arith) in
-        let b = like (lo + 1) 1 (omega arith) in
-        let d = like (lo + hi + 1) 1 (omega arith) in
-        let o = same 0 (omega arith) in
-        let f = less in
-        let t = term-twice n (x + 1) in
-        let g = term-like (n * 2) (x + 1 + z) (x + 1) (omega arith) in
-        omega (arith, ints)
-    pick (inr p) (inl q) =
-        let h = holds-one (hi + lo) (omega arith) in
-        let a = like (hi + 1) 1 (omega arith) in
-        let b = same (lo + 1) (omega arith) in
-        let d = same (lo + hi + 1) (omega arith) in
-        let o = same 0 (omega arith) in
-        let f = less in
-        let t = term-twice n x in
-        let g = term-like (n * 2) (x + 1 + z) x (omega arith) in
-        omega (arith, ints)
-    pick (inl p) (inr q) =
-        let h = holds-one (hi + lo) (omega arith) in
-        let a = same (hi + 1) (omega arith) in
-        let b = like (lo + 1) 1 (omega arith) in
-        let d = same (lo + hi + 1) (omega arith) in
-        let o = same 0 (omega arith) in
-        let f = less in
-        let t = term-twice n x in
-        let g = term-like (n * 2) (x + 1 + z) x (omega arith) in
-        omega (arith, ints)
-    pick (inr p) (inr q) =
-        let h = holds-one (hi + lo) (omega arith) in
-        let a = same (hi + 1) (omega arith) in
-        let b = same (lo + 1) (omega arith) in
-        let d = like (lo + hi + 1) 1 (omega arith) in
-        let o = same 0 (omega arith) in
-        let f = less in
-        let t = term-twice n x in
-        let g = term-like (n * 2) (x + 1 + z) x (omega arith) in
-        omega (arith, ints)
+  four : (lo hi : ℕ) → lo < 2 → hi < 2
+      → (term n (x + 0) +ℤ term n (x + (hi + 1))) +ℤ (term n (x + (lo + 1)) +ℤ term n (x + (lo + hi + 1))) ≡ term (n * 2) (x + (1 + holds (hi + lo)))
+  four zero zero l h = omega (arith, ints, less, term-twice n (x + 1))
+  four (suc zero) zero l h = omega (arith, ints, less, two, term-twice n (x + 2))
+  four zero (suc zero) l h = omega (arith, ints, less, two, term-twice n (x + 2))
+  four (suc zero) (suc zero) l h = omega (arith, ints, less, two, three, term-twice n (x + 2))
+  four (suc (suc lo)) hi l h = absurd (let w : ⊥ = omega arith in w)
+  four zero (suc (suc hi)) l h = absurd (let w : ⊥ = omega arith in w)
+  four (suc zero) (suc (suc hi)) l h = absurd (let w : ⊥ = omega arith in w)
 
 -- ---- the signs of a seed with the other bits a, from a number c of ones on, with k pairs, over block q of level 2 m
 
@@ -214,12 +178,12 @@ block-step k c a m q =
         ap (λ z. value (signBy z)) (let r : c + dot a (x i) + pairs (suc k) (x i) ≡ c + u + dot (a / 4) i + pairs k i = omega arith in r))
 
 -- one pair more among the zero pairs, or not
-one-more : (x p m z : ℕ) → p ≤ m → z ≤ 1 → (x + (m - p) + 1 + z) % 2 ≡ (x + (suc m - (z + p))) % 2
+one-more : (x p m z : ℕ) → p ≤ m → z ≤ 1 → (x + (m - p) + (1 + z)) % 2 ≡ (x + (suc m - (z + p))) % 2
 one-more x p m z l h = pick (cases-eq z 0)
   where
-    pick : (z ≡ 0) ⊎ (z ≡ 0 → ⊥) → (x + (m - p) + 1 + z) % 2 ≡ (x + (suc m - (z + p))) % 2
-    pick (inl e) = ap (λ y. y % 2) (let r : x + (m - p) + 1 + z ≡ x + (suc m - (z + p)) = omega arith in r)
-    pick (inr e) = let r : x + (m - p) + 1 + z ≡ x + (suc m - (z + p)) + 2 = omega arith in omega arith
+    pick : (z ≡ 0) ⊎ (z ≡ 0 → ⊥) → (x + (m - p) + (1 + z)) % 2 ≡ (x + (suc m - (z + p))) % 2
+    pick (inl e) = ap (λ y. y % 2) (let r : x + (m - p) + (1 + z) ≡ x + (suc m - (z + p)) = omega arith in r)
+    pick (inr e) = let r : x + (m - p) + (1 + z) ≡ x + (suc m - (z + p)) + 2 = omega arith in omega arith
 
 block-more : (m k c a q : ℕ) → ((x : ℕ) → block k x (a / 4) m q ≡ term (2 ^ m) (x + dot (a / 4) (q * 4 ^ m) + pairs k (q * 4 ^ m) + zeroPairs m (a / 4)))
     → block (suc k) c a (suc m) q ≡ term (2 ^ suc m) (c + dot a (q * 4 ^ suc m) + pairs (suc k) (q * 4 ^ suc m) + zeroPairs (suc m) a)
@@ -235,7 +199,7 @@ block-more m k c a q rest =
     let one = holds-le (hi + lo) in
     block-step k c a m q
     ∙ ap₂ _+ℤ_ (ap₂ _+ℤ_ (at 0) (at (hi + 1))) (ap₂ _+ℤ_ (at (lo + 1)) (at (lo + hi + 1)))
-    ∙ four (2 ^ m) rest-ones lo hi z (parity a) (parity (a / 2)) refl
+    ∙ four (2 ^ m) rest-ones lo hi (omega arith) (omega arith)
     ∙ term-like (2 ^ m * 2) _ _ (one-more (c + dot (a / 4) y + pairs k y) (pairs m (a / 4)) m z few one)
     ∙ ap (λ x. term (2 ^ m * 2) (x + (suc m - (z + pairs m (a / 4))))) (let r : c + dot (a / 4) y + pairs k y ≡ c + dot a (q * 4 ^ suc m) + pairs (suc k) (q * 4 ^ suc m) = omega arith in r)
     ∙ ap (λ x. term (2 ^ m * 2) (c + dot a (q * 4 ^ suc m) + pairs (suc k) (q * 4 ^ suc m) + (suc m - x))) (sym (p ∙ ap (λ x. x + pairs m (a / 4)) pair))

@@ -10,7 +10,6 @@ use lib.Dec.{eqb}
 use lib.Pow.{pow-mono}
 use Rattle.std.proofs.shelf.Tests.{eq-eqb, ne-eqb, cases-eq}
 use Rattle.signs.specs.declared.family.Sign.{Sign}
-use Rattle.signs.specs.declared.family.Sign.the-variants.{Plus, Minus}
 use Rattle.signs.specs.Sums.{count}
 use Rattle.signs.specs.Family.{Lawful, alike}
 use Rattle.signs.proofs.Powers.{parity}

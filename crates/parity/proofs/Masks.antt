@@ -8,7 +8,7 @@ use lib.Count.{ones, onesIn}
 use Rattle.std.proofs.shelf.Tests.{cases-eq}
 use Rattle.parity.specs.Parity.{pairs}
 use Rattle.parity.proofs.Parity.{dot, dot-step, dot-even}
-use Rattle.parity.proofs.Eh3Sums.{holds, holds-none, holds-one, pair-is, pairs-step}
+use Rattle.parity.proofs.Eh3Sums.{holds, holds-none, holds-one, pair-is}
 
 -- the lower bit of each of k pairs: at 16, 0x5555_5555
 unfoldable pub mask : ℕ → ℕ

@@ -1,5 +1,6 @@
 -- Signs by parity, the bits that two numbers share, and sums and counts by the lowest bit. Assumes nothing.
 use mathlib.Core.Path.{_≡_, refl, sym, ap, _∙_}
+use mathlib.Core.Bool.{cond}
 use mathlib.Core.Logic.{_⊎_, inl, inr}
 use Prim.Native.Nat.{ℕ, zero, suc, min, _+_, _*_, _/_, _%_}
 use native.Mathlib.Omega.{arith}
@@ -9,7 +10,6 @@ use lib.Dec.{eqb}
 use lib.IntN.{ℤ, pos, _+ℤ_, _*ℤ_}
 use Rattle.std.proofs.shelf.Signed.{ints}
 use Rattle.std.proofs.shelf.Tests.{eq-eqb, ne-eqb, cond-true, cond-false}
-use Rattle.signs.specs.declared.family.Sign.{Sign}
 use Rattle.signs.specs.declared.family.Sign.the-variants.{Plus, Minus}
 use Rattle.signs.specs.Sums.{sum}
 use Rattle.signs.specs.Family.{value}
@@ -25,7 +25,7 @@ sign-odd n e = cond-false (eqb (n % 2) 0) Plus Minus (ne-eqb (n % 2) 0 (λ z. le
 
 -- numbers of one parity have one sign
 pub sign-like : (m n : ℕ) → m % 2 ≡ n % 2 → signBy m ≡ signBy n
-sign-like m n e = ap (λ x. mathlib.Core.Bool.cond (eqb x 0) Plus Minus) e
+sign-like m n e = ap (λ x. cond (eqb x 0) Plus Minus) e
 
 -- and those of different parity cancel
 pub sign-unlike : (m n : ℕ) → m % 2 ≡ (n + 1) % 2 → value (signBy m) +ℤ value (signBy n) ≡ pos 0
@@ -34,16 +34,6 @@ sign-unlike m n e = pick (parity n)
     pick : (n % 2 ≡ 0) ⊎ (n % 2 ≡ 1) → value (signBy m) +ℤ value (signBy n) ≡ pos 0
     pick (inl p) = rw (sign-even n p, sign-odd m (let q : m % 2 ≡ 1 = omega arith in q))
     pick (inr p) = rw (sign-odd n p, sign-even m (let q : m % 2 ≡ 0 = omega arith in q))
-
--- the product of two signs
-pub sign-product : (m n : ℕ) → value (signBy m) *ℤ value (signBy n) ≡ value (signBy (m + n))
-sign-product m n = pick (parity m) (parity n)
-  where
-    pick : (m % 2 ≡ 0) ⊎ (m % 2 ≡ 1) → (n % 2 ≡ 0) ⊎ (n % 2 ≡ 1) → value (signBy m) *ℤ value (signBy n) ≡ value (signBy (m + n))
-    pick (inl p) (inl q) = rw (sign-even m p, sign-even n q, sign-even (m + n) (let r : (m + n) % 2 ≡ 0 = omega arith in r))
-    pick (inl p) (inr q) = rw (sign-even m p, sign-odd n q, sign-odd (m + n) (let r : (m + n) % 2 ≡ 1 = omega arith in r))
-    pick (inr p) (inl q) = rw (sign-odd m p, sign-even n q, sign-odd (m + n) (let r : (m + n) % 2 ≡ 1 = omega arith in r))
-    pick (inr p) (inr q) = rw (sign-odd m p, sign-odd n q, sign-even (m + n) (let r : (m + n) % 2 ≡ 0 = omega arith in r))
 
 -- the bits that two numbers share
 abbrev pub dot : ℕ → ℕ → ℕ

@@ -1,6 +1,6 @@
 -- BCH3 and EH3 as they are published: the sign of a seed and a slot, and the closed rules for the sum over a block. The lowest bit of a seed s
 -- is s % 2, and its others are s / 2. Assumes nothing.
-use mathlib.Core.Bool.{Bool, cond}
+use mathlib.Core.Bool.{cond}
 use Prim.Native.Nat.{ℕ, zero, suc, _+_, _-_, _*_, _/_, _%_, _^_}
 use lib.Bits.{bitAnd}
 use lib.Count.{ones}

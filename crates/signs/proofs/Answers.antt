@@ -1,6 +1,5 @@
 -- What an answer says of the checks before it. Assumes nothing.
-use mathlib.Core.Path.{_≡_, refl, sym, ap, _∙_}
-use mathlib.Core.Bool.{Bool, true, false, _||_}
+use mathlib.Core.Path.{_≡_, refl, sym}
 use Prim.Native.Nat.{ℕ, _-_, _^_, _≤_, _<_}
 use native.Mathlib.Omega.{arith}
 use Rattle.std.proofs.shelf.Ways.{tells}
@@ -19,11 +18,6 @@ accepted None x y e = refl
 pub said : {A : Type 0} (r : Refusal) (x y : A) → Ok y ≡ answer r x → y ≡ x
 said (Some f) x y e = let z : _≡_ {A = ℕ} 0 1 = cc in absurd (let w : ⊥ = omega arith in w)
 said None x y e = cc
-
--- the first check that refused
-pub refused : {A : Type 0} (r : Refusal) (x : A) (f : Fault) → answer r x ≡ Err f → r ≡ Some f
-refused (Some g) x f e = cc
-refused None x f e = let z : _≡_ {A = ℕ} 0 1 = cc in absurd (let w : ⊥ = omega arith in w)
 
 -- where two checks pass, each does
 

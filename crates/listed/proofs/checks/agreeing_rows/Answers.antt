@@ -1,12 +1,12 @@
 use mathlib.Core.Path.{_≡_, refl, sym, _∙_, ap}
 use mathlib.Core.Bool.{Bool}
-use Prim.Native.Nat.{ℕ, _+_, _*_, _%_, _^_, _<_, _≤_}
+use Prim.Native.Nat.{ℕ, _+_, _*_, _%_, _^_, _≤_}
 use native.Mathlib.Omega.{arith}
-use lib.ListN.{length, getD}
+use lib.ListN.{getD}
 use Rattle.std.proofs.shelf.Bits.{one-shl}
 use Rattle.signs.specs.Sums.{count}
 use Rattle.signs.specs.Family.{alike}
-use Rattle.listed.specs.Listed.{listed, byteSign}
+use Rattle.listed.specs.Listed.{byteSign}
 use Rattle.listed.proofs.Cells.{cell-there, count-yes, count-no}
 use Rattle.listed.proofs.checks.agreeing_rows.Needs as need
 use Rattle.listed.proofs.checks.agreeing_rows.Needs.{then-are-alike, else-are-alike}

@@ -1,6 +1,5 @@
 use mathlib.Core.Path.{_≡_, sym, _∙_, ap}
 use native.Mathlib.Omega.{arith}
-use Prim.Native.Nat.{ℕ}
 use lib.ListN.{length, getD}
 use Rattle.std.proofs.shelf.Tests.{lt-ltb, le-ltb}
 use Rattle.std.specs.declared.result.Result.{Result}
@@ -9,7 +8,7 @@ use Rattle.signs.specs.declared.faults.Fault.{Fault}
 use Rattle.signs.specs.declared.faults.Reason.the-variants.{SignByte}
 use Rattle.signs.specs.Faults.{Refusal, refuseIf, checkEach, answer, familyFault}
 use Rattle.signs.proofs.Entries.{each-none, each-more, each-hit}
-use Rattle.listed.specs.Listed.{byteCheck, bytesCheck}
+use Rattle.listed.specs.Listed.{byteCheck}
 use Rattle.listed.proofs.checks.check_bytes.Needs as need
 
 abbrev answered : Refusal → Result (Unit {0}) Fault

@@ -1,11 +1,9 @@
-use mathlib.Core.Path.{_≡_, sym, _∙_, ap}
+use mathlib.Core.Path.{sym}
 use Prim.Native.Nat.{ℕ, _+_}
 use native.Mathlib.Omega.{arith}
-use lib.IntN.{ℤ}
 use lib.ListN.{getD}
 use Rattle.std.proofs.shelf.Signed.{ints}
 use Rattle.signs.specs.declared.family.Sign.{Sign}
-use Rattle.signs.specs.Sums.{sum}
 use Rattle.signs.specs.Family.{value}
 use Rattle.signs.proofs.Sums.{sum-none, sum-plus-one, signs-abs, value-abs}
 use Rattle.listed.specs.Listed.{byteSign}

@@ -1,7 +1,7 @@
 use mathlib.Core.Path.{_≡_, sym, ap, _∙_}
 use native.Mathlib.Nat.{mod-eq-of-lt}
 use native.Mathlib.Omega.{arith}
-use Prim.Native.Nat.{ℕ, _*_, _/_, _%_, _^_, _≤_, _<_}
+use Prim.Native.Nat.{_*_, _/_, _%_, _^_}
 use lib.Dec.{eqb}
 use lib.IntN.{pos, _*ℤ_}
 use Rattle.std.proofs.shelf.Bits.{one-shl}
@@ -11,7 +11,7 @@ use mir.Val.{SFits}
 use mir.Syntax.{w64}
 use Rattle.signs.specs.Family.{value}
 use Rattle.signs.proofs.Powers.{trailing-divides, divides-trailing}
-use Rattle.parity.specs.Parity.{signBy, bch3Ones, bch3Sign}
+use Rattle.parity.specs.Parity.{signBy, bch3Sign}
 use Rattle.parity.proofs.bch3.closed_sum.Needs as need
 
 pub returns-then-seed-level : need.returns-then-seed-level

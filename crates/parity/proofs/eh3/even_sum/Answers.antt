@@ -1,14 +1,14 @@
 use mathlib.Core.Path.{_≡_, sym, ap, _∙_}
 use native.Mathlib.Omega.{arith}
-use Prim.Native.Nat.{ℕ, _+_, _-_, _*_, _/_, _%_, _^_, _≤_, _<_}
+use Prim.Native.Nat.{ℕ, _+_, _-_, _*_, _/_, _%_, _^_, _≤_}
 use lib.IntN.{ℤ, pos, natAbs, _*ℤ_}
 use lib.Pow.{pow-mono}
 use mir.Val.{SFits, toZ, ofZ}
 use mir.Syntax.{w64}
 use Rattle.std.proofs.shelf.Bits.{one-shl}
-use Rattle.std.proofs.shelf.Signed.{ints, toZ-ofZ}
+use Rattle.std.proofs.shelf.Signed.{toZ-ofZ}
 use Rattle.signs.specs.Family.{value}
-use Rattle.parity.specs.Parity.{signBy, bch3Ones, pairs, zeroPairs, eh3EvenSum}
+use Rattle.parity.specs.Parity.{signBy, bch3Ones, pairs, zeroPairs}
 use Rattle.parity.proofs.Eh3Sums.{pairs-le, pairs-low, rule-is, term, term-abs, two-four}
 use Rattle.parity.proofs.eh3.even_sum.Needs as need
 

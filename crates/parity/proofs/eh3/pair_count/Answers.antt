@@ -1,6 +1,4 @@
-use mathlib.Core.Path.{_≡_}
 use native.Mathlib.Omega.{arith}
-use Rattle.parity.specs.Parity.{pairs}
 use Rattle.parity.proofs.Eh3Sums.{pairs-le}
 use Rattle.parity.proofs.Masks.{mask, pairs-masked}
 use Rattle.parity.proofs.eh3.pair_count.Needs as need

@@ -1,8 +1,7 @@
-use mathlib.Core.Path.{_≡_}
 use mathlib.Core.Logic.{_⊎_, inl, inr}
-use Prim.Native.Nat.{ℕ, suc, _+_, _-_, _%_, _^_, _≤_, _<_}
+use Prim.Native.Nat.{ℕ, suc, _-_, _^_, _≤_, _<_}
 use native.Mathlib.Omega.{arith}
-use lib.Count.{leadingZeros, leading-top, trailingZeros}
+use lib.Count.{leading-top, trailingZeros}
 use lib.Pow.{pow-mono}
 use Rattle.std.proofs.shelf.Tests.{cases-lt}
 use Rattle.signs.proofs.Powers.{trailing-divides, divides-trailing}

@@ -1,5 +1,5 @@
 use mathlib.Core.Path.{_≡_, sym, _∙_, ap}
-use Prim.Native.Nat.{ℕ, _+_, _-_, _*_, _%_, _^_, _≤_, _<_}
+use Prim.Native.Nat.{ℕ, _+_, _-_, _*_, _%_, _^_, _≤_}
 use native.Mathlib.Nat.{sub-zero}
 use native.Mathlib.Omega.{arith}
 use lib.IntN.{ℤ, natAbs, _+ℤ_}
@@ -7,7 +7,7 @@ use mir.Syntax.{w64}
 use mir.Val.{toZ, ofZ}
 use Rattle.std.proofs.shelf.Bits.{one-shl}
 use Rattle.std.proofs.shelf.Signed.{ints}
-use Rattle.signs.specs.Family.{value, signSum}
+use Rattle.signs.specs.Family.{value}
 use Rattle.signs.proofs.Sums.{run, signs-abs}
 use Rattle.signs.proofs.Blocks.{ok, few-slots, interval-ok, ok-same}
 use Rattle.signs.proofs.Shifts.{round, round-straight, round-over}

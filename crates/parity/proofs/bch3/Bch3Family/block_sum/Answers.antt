@@ -1,12 +1,10 @@
 use mathlib.Core.Path.{_≡_, refl, sym, ap, _∙_}
 use native.Mathlib.Omega.{arith}
-use Prim.Native.Nat.{ℕ, _+_, _*_, _^_, _≤_, _<_}
+use Prim.Native.Nat.{_+_, _^_}
 use lib.Pow.{pow-pos}
 use mir.Val.{SFits}
 use mir.Syntax.{w64}
 use Rattle.std.proofs.shelf.Signed.{toZ-ofZ}
-use Rattle.std.specs.declared.result.Result.{Result}
-use Rattle.signs.specs.declared.faults.Fault.{Fault}
 use Rattle.signs.specs.Faults.{answer}
 use Rattle.signs.specs.Family.{blockRefusal}
 use Rattle.signs.proofs.Blocks.{ok, asked, block-accepted}

@@ -1,13 +1,13 @@
-use mathlib.Core.Path.{_≡_, sym, ap, _∙_, subst}
+use mathlib.Core.Path.{sym, ap, _∙_, subst}
 use native.Mathlib.Omega.{arith}
-use Prim.Native.Nat.{ℕ, _+_, _/_, _^_, _<_}
+use Prim.Native.Nat.{_+_, _^_, _<_}
 use Rattle.std.specs.declared.result.Result.{Result}
 use Rattle.std.specs.declared.result.Result.the-variants.{Ok}
 use Rattle.signs.specs.declared.faults.Fault.{Fault}
 use Rattle.signs.specs.declared.family.Sign.{Sign}
 use Rattle.signs.proofs.Answers.{seed-passed, slot-passed}
 use Rattle.signs.proofs.Blocks.{sign-ok}
-use Rattle.parity.specs.Parity.{signBy, bch3Ones, eh3}
+use Rattle.parity.specs.Parity.{signBy, eh3}
 use Rattle.parity.proofs.Eh3Sums.{sign-32}
 use Rattle.parity.proofs.eh3.Eh3Family.sign.Needs as need
 

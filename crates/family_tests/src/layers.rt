@@ -76,6 +76,16 @@ fn turned_over_offset() -> Result<(), Fail> {
     check_eq(wrong_sums(&family)?, 0)
 }
 
+// The worked examples of the published text; its EH3 sum is printed as 12, which is the one of s0 = 1.
+#[test]
+fn published_examples() -> Result<(), Fail> {
+    check(Bch3::new(16)?.sign(2 * 7469 + 1, 2500)? == Sign::Plus)?;
+    check_eq(interval_sum(&Bch3::new(8)?, 2 * 184, 100, 203)?, -1)?;
+    let eh3 = Eh3::new(8)?;
+    check_eq(interval_sum(&eh3, 2 * 184, 124, 198)?, -12)?;
+    check_eq(interval_sum(&eh3, 2 * 184 + 1, 124, 198)?, 12)
+}
+
 #[test]
 fn widest() -> Result<(), Fail> {
     let bch3 = Bch3::new(24)?;

@@ -31,6 +31,7 @@ pub struct Listed {
 }
 
 impl Listed {
+    /// The family of a table, or the first of its faults: the width (1), the rows (2), a byte (3), two columns (4).
     pub fn new(width: u32, rows: u32, table: Vec<u8>) -> Result<Listed, Fault>
         ensures { λ r. ⌜ mapped (λ f. listed (f .width) (f .rows) (vec-items (f .table))) (λ e. e) r ≡ answer (listedRefusal width rows (vec-items table)) (listed width rows (vec-items table)) ⌝ }
     {

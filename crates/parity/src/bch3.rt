@@ -24,6 +24,7 @@ pub struct Bch3 {
 }
 
 impl Bch3 {
+    /// The family of that width; a width outside of 1 to 24 is refused (1).
     pub fn new(width: u32) -> Result<Bch3, Fault>
         ensures { λ r. ⌜ mapped (λ f. bch3 (f .width)) (λ e. e) r ≡ answer (widthCheck 1 24 width) (bch3 width) ⌝ }
     {

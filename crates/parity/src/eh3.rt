@@ -25,6 +25,7 @@ pub struct Eh3 {
 }
 
 impl Eh3 {
+    /// The family of that width; a width outside of 2 to 24, and an odd one, is refused (1).
     pub fn new(width: u32) -> Result<Eh3, Fault>
         ensures { λ r. ⌜ mapped (λ f. eh3 (f .width)) (λ e. e) r ≡ answer (eh3WidthCheck width) (eh3 width) ⌝ }
     {

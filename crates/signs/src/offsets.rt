@@ -20,6 +20,7 @@ pub struct Offset<F> {
 }
 
 impl<F> Offset<F> {
+    /// The layer over a family. The offset may be larger than the number of slots.
     pub fn new(below: F, offset: u32) -> Offset<F>
         ensures below { λ r. ⌜ r .below ≡ below ⌝ }
         ensures offset { λ r. ⌜ r .offset ≡ offset ⌝ }

@@ -9,6 +9,7 @@ use lib.Arith.{mod-mul}
 use lib.Dec.{eqb, lit<}
 use lib.IntN.{ℤ, pos, negsuc, natAbs, _+ℤ_, _*ℤ_}
 use lib.Pow.{pow-pos}
+use Rattle.std.proofs.shelf.Bits.{one-shl}
 use Rattle.std.proofs.shelf.Signed.{ints}
 use Rattle.std.proofs.shelf.Tests.{cases-eq, eq-eqb, ne-eqb, cond-true, cond-false}
 use Rattle.signs.specs.declared.family.Sign.{Sign}
@@ -250,6 +251,10 @@ two-four (suc m) =
     let q = pow-suc 2 (2 * m) in
     let r = pow-suc 4 m in
     omega arith
+
+-- a block's slots, as code counts them
+pub size-is : (m : ℕ) → m ≤ 12 → 1 * 2 ^ (2 * m) % 4294967296 ≡ 4 ^ m
+size-is m h = one-shl (2 * m) 32 (omega arith) ∙ two-four m
 
 pub even-level : (j : ℕ) → j % 2 ≡ 0 → 4 ^ (j / 2) ≡ 2 ^ j
 even-level j e = sym (two-four (j / 2)) ∙ ap (λ x. 2 ^ x) (let r : 2 * (j / 2) ≡ j = omega arith in r)

@@ -4,7 +4,7 @@ ghost use lib.IntN.{natAbs};
 ghost use Rattle.std.specs.Results.{mapped};
 ghost use Rattle.signs.specs.Faults.{answer};
 ghost use Rattle.signs.specs.Family.{blockRefusal, blockAnswer};
-ghost use Rattle.parity.specs.Parity.{bch3Ones, pairs, eh3, eh3EvenSum, eh3BlockSum, eh3WidthCheck};
+ghost use Rattle.parity.specs.Parity.{bch3Ones, pairs, zeroPairs, eh3, eh3EvenSum, eh3BlockSum, eh3WidthCheck};
 use crate::bits::bch3_ones;
 use crate::bits::sign_by;
 use crate::bits::signed;
@@ -52,6 +52,15 @@ fn eh3_ones(seed: u64, slot: u32) -> u32
     bch3_ones(seed, slot) + pair_count(slot)
 }
 
+// How many of a number's lowest `half` pairs of bits are both zero.
+fn zero_pair_count(x: u32, half: u32) -> u32
+    requires { ⌜ half ≤ 12 ⌝ }
+    ensures is { λ r. ⌜ r ≡ zeroPairs half x ⌝ }
+    ensures few { λ r. ⌜ r ≤ half ⌝ }
+{
+    half - pair_count(x % (1 << (2 * half)))
+}
+
 // The sum over a block of level 2 × half: 2^half times the first slot's sign, turned once for each of the lowest `half` pairs of the seed's
 // bits but the lowest that are both zero.
 fn even_sum(seed: u64, half: u32, number: u32) -> i64
@@ -61,9 +70,9 @@ fn even_sum(seed: u64, half: u32, number: u32) -> i64
     ensures is { λ r. ⌜ r ≡ eh3EvenSum 32 seed half number ⌝ }
     ensures small { λ r. ⌜ natAbs r ≤ 4096 ⌝ }
 {
-    let size = 1u32 << (2 * half);
-    let zeros = half - pair_count((seed / 2) as u32 % size);
-    signed(1 << half, sign_by(eh3_ones(seed, number * size) + zeros))
+    let first = number << (2 * half);
+    let zeros = zero_pair_count((seed / 2) as u32, half);
+    signed(1 << half, sign_by(eh3_ones(seed, first) + zeros))
 }
 
 // The closed rule: at an even level `even_sum`, and at an odd one the sum of the two blocks of the level below.

@@ -4,8 +4,7 @@ use Prim.Native.Nat.{ℕ, _-_, _^_, _≤_, _<_}
 use native.Mathlib.Omega.{arith}
 use Rattle.std.proofs.shelf.Ways.{tells}
 use Rattle.std.specs.declared.option.Option.the-variants.{Some, None}
-use Rattle.std.specs.declared.result.Result.the-variants.{Ok, Err}
-use Rattle.signs.specs.declared.faults.Fault.{Fault}
+use Rattle.std.specs.declared.result.Result.the-variants.{Ok}
 use Rattle.signs.specs.Faults.{Refusal, _⨾_, answer}
 use Rattle.signs.specs.Family.{seedCheck, slotCheck, blockCheck, intervalCheck}
 

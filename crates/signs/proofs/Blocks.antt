@@ -5,7 +5,10 @@ use native.Mathlib.Nat.{div-lt-iff-lt-mul, sub-add-cancel, mul-le-mul-right, suc
 use native.Mathlib.Omega.{arith}
 use lib.Pow.{pow-pos, pow-add, pow-mono}
 use lib.IntN.{ℤ, natAbs, _+ℤ_}
+use mir.Syntax.{w64}
+use mir.Val.{SFits, toZ, ofZ}
 use Rattle.std.proofs.shelf.Bits.{one-shl}
+use Rattle.std.proofs.shelf.Signed.{toZ-ofZ}
 use Rattle.std.specs.declared.option.Option.the-variants.{None}
 use Rattle.std.specs.declared.result.Result.{Result}
 use Rattle.std.specs.declared.result.Result.the-variants.{Ok, Err}
@@ -30,6 +33,9 @@ block-run n j q l h =
     let m : suc q * 2 ^ j ≤ 2 ^ (n - j) * 2 ^ j = mul-le-mul-right (2 ^ j) h in
     omega (arith, suc-mul q (2 ^ j))
 
+abbrev pub ok : ℤ → Result ℤ Fault
+ok z = Ok z
+
 -- what is there is not refused
 
 pub sign-ok : (F : Meaning) (s i : ℕ) → s < F .seeds → i < 2 ^ F .width → signAnswer F s i ≡ Ok (F .sign s i)
@@ -42,13 +48,21 @@ block-accepted F s j q h b = ap (λ r. r ⨾ blockCheck (F .width) j q) (there-s
 pub block-ok : (F : Meaning) (s j q : ℕ) → s < F .seeds → Block (F .width) j q → blockAnswer F s j q ≡ Ok (blockSum F s j q)
 block-ok F s j q h b = ap (λ r. answer r (blockSum F s j q)) (block-accepted F s j q h b)
 
+-- A block sum that code computed by a rule of its own: the answer is the rule's, and the sum of the signs.
+pub record Ruled (F : Meaning) (s j q : ℕ) (rule : ℤ) (r : Result ℤ Fault) : Type 0 where
+  pub is : r ≡ blockAnswer F s j q
+  pub closed : r ≡ answer (blockRefusal F s j q) rule
+
+pub ruled : (F : Meaning) (s j q : ℕ) (x rule : ℤ) → s < F .seeds → Block (F .width) j q → SFits w64 x → x ≡ rule → rule ≡ blockSum F s j q
+    → Ruled F s j q rule (Ok (toZ w64 (ofZ w64 x)))
+ruled F s j q x rule h b fits e f =
+    let closed = ap ok (toZ-ofZ w64 x fits ∙ e) ∙ sym (ap (λ r. answer r rule) (block-accepted F s j q h b)) in
+    record { is = closed ∙ ap (answer (blockRefusal F s j q)) f; closed = closed }
+
 pub interval-ok : (F : Meaning) (s a b : ℕ) → s < F .seeds → Interval (F .width) a b → intervalAnswer F s a b ≡ Ok (intervalSum F s a b)
 interval-ok F s a b h i =
     let z = intervalSum F s a b in
     ap (λ r. answer (r ⨾ intervalCheck (F .width) a b) z) (there-seed (F .seeds) s h) ∙ ap (λ r. answer r z) (there-interval (F .width) a b i)
-
-abbrev pub ok : ℤ → Result ℤ Fault
-ok z = Ok z
 
 -- the block that starts at a slot
 pub block-at : (F : Meaning) (s j a : ℕ) → s < F .seeds → a + 2 ^ j ≤ 2 ^ F .width → a % 2 ^ j ≡ 0 → blockAnswer F s j (a / 2 ^ j) ≡ Ok (signSum F s a (2 ^ j))

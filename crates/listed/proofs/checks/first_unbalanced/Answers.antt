@@ -17,7 +17,7 @@ loop-a-holds c = each-none (columnCheck (c .args .width) (c .args .rows) (c .arg
 pub loop-b-holds : need.loop-b-holds
 loop-b-holds c =
     let a = c .loop-a .a in
-    each-all (a + 1) (pairCheck (c .args .width) (c .args .rows) (c .args .table .now) a)
+    each-all _ (pairCheck (c .args .width) (c .args .rows) (c .args .table .now) a)
     (λ b l. pair-turned (c .args .width) (c .args .rows) (c .args .table .now) a b (omega arith))
 
 pub loop-b-again : need.loop-b-again
@@ -27,7 +27,9 @@ loop-b-again c =
     let t = c .args .table .now in
     let a = c .loop-a .a in
     let b = c .loop-b .b in
-    let e : 2 * agreeing (listed n m t) a b ≡ m = ap (λ x. 2 * x) (sym (c .agreeing-rows .ensures .is)) ∙ c .if-agreeing-rows-rows .left in
+    let count = c .agreeing-rows .ensures .is in
+    let half = c .if-agreeing-rows-rows .left in
+    let e : 2 * agreeing (listed n m t) a b ≡ m = cc in
     each-more b (pairCheck n m t a) (c .loop-b .inv) (pair-good n m t a b e)
 
 pub loop-a-again : need.loop-a-again

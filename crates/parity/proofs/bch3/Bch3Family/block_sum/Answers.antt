@@ -1,13 +1,8 @@
-use mathlib.Core.Path.{_≡_, refl, sym, ap, _∙_}
+use mathlib.Core.Path.{refl}
 use native.Mathlib.Omega.{arith}
 use Prim.Native.Nat.{_+_, _^_}
 use lib.Pow.{pow-pos}
-use mir.Val.{SFits}
-use mir.Syntax.{w64}
-use Rattle.std.proofs.shelf.Signed.{toZ-ofZ}
-use Rattle.signs.specs.Faults.{answer}
-use Rattle.signs.specs.Family.{blockRefusal}
-use Rattle.signs.proofs.Blocks.{ok, asked, block-accepted}
+use Rattle.signs.proofs.Blocks.{asked, ruled}
 use Rattle.parity.specs.Parity.{bch3, bch3BlockSum}
 use Rattle.parity.proofs.Bch3Sums.{bch3-rule}
 use Rattle.parity.proofs.bch3.Bch3Family.block_sum.Needs as need
@@ -28,8 +23,5 @@ returns c =
     let j = c .args .level in
     let q = c .args .number in
     let a = asked n (2 ^ (n + 1)) _ _ _ _ _ _ _ (omega arith) refl (c .seed-count .ensures) (c .in-Continue-check-seed .ensures tt) (c .in-Continue-check-block .ensures tt) in
-    let fits : SFits w64 (c .closed-sum .result) = record { sfits = c .closed-sum .ok } in
-    let closed : ok _ ≡ answer (blockRefusal (bch3 n) s j q) (bch3BlockSum s j q) =
-    ap ok (toZ-ofZ w64 (c .closed-sum .result) fits ∙ c .closed-sum .ensures)
-    ∙ sym (ap (λ r. answer r (bch3BlockSum s j q)) (block-accepted (bch3 n) s j q (a .seed) (a .block))) in
-    record { is = closed ∙ ap (answer (blockRefusal (bch3 n) s j q)) (bch3-rule n s j q); closed = closed }
+    let r = ruled (bch3 n) s j q (c .closed-sum .result) (bch3BlockSum s j q) (a .seed) (a .block) (record { sfits = c .closed-sum .ok }) (c .closed-sum .ensures) (bch3-rule n s j q) in
+    record { is = r .is; closed = r .closed }

@@ -1,13 +1,8 @@
-use mathlib.Core.Path.{_≡_, refl, sym, ap, _∙_}
+use mathlib.Core.Path.{refl, _∙_}
 use native.Mathlib.Omega.{arith}
 use Prim.Native.Nat.{_+_, _^_, _≤_}
 use lib.Pow.{pow-mono}
-use mir.Val.{SFits}
-use mir.Syntax.{w64}
-use Rattle.std.proofs.shelf.Signed.{toZ-ofZ}
-use Rattle.signs.specs.Faults.{answer}
-use Rattle.signs.specs.Family.{blockRefusal}
-use Rattle.signs.proofs.Blocks.{ok, asked, block-accepted}
+use Rattle.signs.proofs.Blocks.{asked, ruled}
 use Rattle.parity.specs.Parity.{eh3, eh3BlockSum}
 use Rattle.parity.proofs.Eh3Sums.{rule-32, eh3-rule}
 use Rattle.parity.proofs.eh3.Eh3Family.block_sum.Needs as need
@@ -31,8 +26,6 @@ returns c =
     let j = c .args .level in
     let q = c .args .number in
     let a = asked n (2 ^ (n + 1)) _ _ _ _ _ _ _ (omega arith) refl (c .seed-count .ensures) (c .in-Continue-check-seed .ensures tt) (c .in-Continue-check-block .ensures tt) in
-    let fits : SFits w64 (c .closed-sum .result) = record { sfits = c .closed-sum .ok } in
-    let closed : ok _ ≡ answer (blockRefusal (eh3 n) s j q) (eh3BlockSum n s j q) =
-    ap ok (toZ-ofZ w64 (c .closed-sum .result) fits ∙ c .closed-sum .ensures ∙ rule-32 n s j q even (omega arith) (a .shift .run))
-    ∙ sym (ap (λ r. answer r (eh3BlockSum n s j q)) (block-accepted (eh3 n) s j q (a .seed) (a .block))) in
-    record { is = closed ∙ ap (answer (blockRefusal (eh3 n) s j q)) (eh3-rule n s j q even (a .block .level)); closed = closed }
+    let rule = c .closed-sum .ensures ∙ rule-32 n s j q even (omega arith) (a .shift .run) in
+    let r = ruled (eh3 n) s j q (c .closed-sum .result) (eh3BlockSum n s j q) (a .seed) (a .block) (record { sfits = c .closed-sum .ok }) rule (eh3-rule n s j q even (a .block .level)) in
+    record { is = r .is; closed = r .closed }

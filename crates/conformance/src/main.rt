@@ -1,6 +1,8 @@
 //! Reads questions to sign families, one to a line, and writes one answer line for each, so that the part can be held against an
 //! implementation of other authorship.
 
+#![tactic(auto)]
+
 mod family;
 mod words;
 

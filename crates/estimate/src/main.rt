@@ -1,5 +1,7 @@
 //! Takes one booking and prints the sums of its slots' signs under two seeds of EH3.
 
+#![tactic(auto)]
+
 use parity::Eh3;
 use signs::{Fault, interval_sum};
 use std::io;

@@ -1,5 +1,7 @@
 //! A family that is written outside of the part, and the tests of the families at their edges.
 
+#![tactic(auto)]
+
 #[cfg(test)]
 mod edges;
 #[cfg(test)]

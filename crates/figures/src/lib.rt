@@ -1,4 +1,7 @@
 //! Worked figures: a table of questions with their answers, which the definitions are proved to yield.
+
+#![tactic(auto)]
+
 ghost use Rattle.std.specs.Prelude.{◌≡◌, length};
 ghost use Rattle.figures.specs.Figures.{figures, FiguresHold, SampleHolds};
 

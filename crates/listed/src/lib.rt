@@ -1,5 +1,7 @@
 //! The family whose signs stand in a table.
 
+#![tactic(auto)]
+
 mod checks;
 mod table;
 

@@ -1,6 +1,8 @@
 //! The sketch as mathematics: what each of its calls refuses and makes, whole runs of calls, and the law over them. The definitions and their
 //! proofs are the crate; the code has only the two types that the calls take and answer.
 
+#![tactic(auto)]
+
 /// A weight on the slots from `from` up to but not including `to`.
 #[derive(Clone, Copy, PartialEq, Eq, Debug)]
 pub struct Booking {

@@ -1,4 +1,7 @@
 //! The overlap of two sketches, estimated from their cells.
+
+#![tactic(auto)]
+
 ghost use Rattle.std.specs.Prelude.{◌≡◌, ℕ, suc, ◌*◌, ◌^◌, ◌<◌, ◌≤◌, length, pos, IfOk, int_le, slice_index_or, unsigned_abs};
 ghost use Rattle.signs.specs.Faults.{answer};
 ghost use Rattle.model.specs.Middle.{smaller, greater, middle_of, Middle};

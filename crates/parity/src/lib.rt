@@ -1,5 +1,7 @@
 //! The published families BCH3 and EH3, whose sign is the parity of the bits that a seed and a slot share.
 
+#![tactic(auto)]
+
 mod bch3;
 mod bits;
 mod eh3;

@@ -1,8 +1,7 @@
-ghost use Rattle.std.specs.Prelude.{◌≡◌, Decides};
+ghost use Rattle.std.specs.Prelude.{◌≡◌, ◌==◌, ◌↔◌, IsTrue};
 ghost use Rattle.signs.specs.Faults.{number_of, letter_of, family_fault, sketch_fault};
 ghost use Rattle.std.specs.Cmp.Rules.{comparing};
 ghost use Rattle.std.proofs.Common.{rules};
-ghost use Rattle.std.specs.Cmp as Keys;
 
 /// What was wrong: a word for each refusal of the part, under its number.
 #[derive(Clone, Copy, Eq, Debug)]
@@ -30,11 +29,14 @@ pub enum Reason {
 }
 
 impl PartialEq for Reason {
-    ghost equals = { λ x y r. Decides r (x ≡ y) };
+    ghost eq = { λ x y. number_of x == number_of y };
 
-    ghost laws = { Keys.partial_equiv_from_equiv (Prim.search (comparing, rules)) };
+    ghost laws = { Prim.search (comparing, rules) };
 
-    fn eq(&self, other: &Reason) -> bool {
+    fn eq(&self, other: &Reason) -> bool
+        ensures value { result ≡ (number_of self.now == number_of other.now) }
+        ensures same { IsTrue result ↔ (self.now ≡ other.now) }
+    {
         *self as u8 == *other as u8
     }
 }

@@ -25,10 +25,10 @@ fn sum_of_blocks<F: SignFamily>(
     a: u32,
     b: u32,
 ) -> Result<i64, Fault>
-    requires width { width ≡ (meaning family.now).width }
-    requires seed { seed < (meaning family.now).seeds }
+    requires width { width ≡ (F.meaning family.now).width }
+    requires seed { seed < (F.meaning family.now).seeds }
     requires within { (a < b) × (b ≤ 2 ^ width) }
-    ensures { result ≡ Ok (interval_sum (meaning family.now) seed a b) }
+    ensures { result ≡ Ok (interval_sum (F.meaning family.now) seed a b) }
 {
     let mut sum = 0i64;
     let mut at = a;
@@ -46,8 +46,8 @@ fn sum_of_blocks<F: SignFamily>(
 /// The sum of the signs of the slots from `a` up to but not including `b`. It is put together from block sums: each block is the largest one
 /// that starts at the next slot and fits, and there are at most two for each bit of the width.
 pub fn interval_sum<F: SignFamily>(family: &F, seed: u64, a: u32, b: u32) -> Result<i64, Fault>
-    ensures is { result ≡ interval_answer (meaning family.now) seed a b }
-    ensures cover { result ≡ cover_answer (meaning family.now) seed a b }
+    ensures is { result ≡ interval_answer (F.meaning family.now) seed a b }
+    ensures cover { result ≡ cover_answer (F.meaning family.now) seed a b }
 {
     check_seed(family.seed_count(), seed)?;
     let width = family.width();

@@ -1,5 +1,7 @@
 //! Families of signs over numbered slots: what one is, the sum of its signs over any interval, and the offset layer over any of them.
 
+#![tactic(auto)]
+
 mod checks;
 mod family;
 mod faults;

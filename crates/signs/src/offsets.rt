@@ -43,11 +43,11 @@ fn sum_round<F: SignFamily>(
     start: u32,
     size: u32,
 ) -> Result<i64, Fault>
-    requires width { width ≡ (meaning family.now).width }
-    requires seed { seed < (meaning family.now).seeds }
+    requires width { width ≡ (F.meaning family.now).width }
+    requires seed { seed < (F.meaning family.now).seeds }
     requires start { start < 2 ^ width }
     requires size { (1 ≤ size) × (size ≤ 2 ^ width) }
-    ensures { result ≡ Ok (sum size (λ k. value ((meaning family.now).sign seed ((start + k) % 2 ^ width)))) }
+    ensures { result ≡ Ok (sum size (λ k. value ((F.meaning family.now).sign seed ((start + k) % 2 ^ width)))) }
 {
     let slots = 1 << width;
     let end = start + size;

@@ -28,12 +28,12 @@ pub(crate) fn add(cells: &mut [i64], others: &[i64])
 // Adds to each cell the booking's weight times the interval sum at the cell's seed.
 pub(crate) fn book<F: SignFamily>(family: &F, seeds: &[u64], cells: &mut [i64], booking: Booking)
     requires same { length seeds.now ≡ length cells.old }
-    requires known { (k : ℕ) → k < length seeds.now → slice_index seeds.now k < (meaning family.now).seeds }
+    requires known { (k : ℕ) → k < length seeds.now → slice_index seeds.now k < (F.meaning family.now).seeds }
     requires own { (k : ℕ) → k < length cells.old → unsigned_abs (slice_index_or cells.old k (pos 0)) ≤ 2 ^ 26 }
     requires some { booking.from < booking.to }
-    requires within { booking.to ≤ 2 ^ (meaning family.now).width }
+    requires within { booking.to ≤ 2 ^ (F.meaning family.now).width }
     requires light { unsigned_abs booking.weight ≤ 1000 }
-    ensures { cells.new ≡ add_each cells.old (gains (meaning family.now) seeds.now booking) }
+    ensures { cells.new ≡ add_each cells.old (gains (F.meaning family.now) seeds.now booking) }
 {
     let weight = i64::from(booking.weight);
     for (k, seed) in seeds.iter().enumerate() {

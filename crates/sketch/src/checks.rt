@@ -15,7 +15,7 @@ pub(crate) fn check_tables<F: SignFamily>(
     figures: &Figures,
     cells: &[i64],
 ) -> Result<(), Fault>
-    ensures { result ≡ answer (tables_check (meaning family.now) seeds.now (tally_of figures.now) cells.now) tt }
+    ensures { result ≡ answer (tables_check (F.meaning family.now) seeds.now (tally_of figures.now) cells.now) tt }
 {
     let entries = figures.groups * figures.columns;
     check_length(seeds, entries, SEEDS)?;
@@ -40,7 +40,7 @@ pub(crate) fn check_booking<F: SignFamily>(
     booking: Booking,
 ) -> Result<(), Fault>
     requires { (gross ≤ 2 ^ 26) × (times ≤ 2) }
-    ensures { result ≡ answer (booking_check (meaning family.now) times gross booking) tt }
+    ensures { result ≡ answer (booking_check (F.meaning family.now) times gross booking) tt }
 {
     let size = booking.weight.unsigned_abs();
     if size == 0 || size > 1000 {

@@ -1,5 +1,8 @@
 //! Sketches of slot bookings over any family of signs, with options and merging. The caller keeps the tables of seeds and cells and lends them
 //! at every call.
+
+#![tactic(auto)]
+
 ghost use Rattle.std.specs.Prelude.{◌≡◌, ◌+◌, ◌-◌, ◌*◌, ◌%◌, ◌^◌, ◌≤◌, T, unsigned_abs};
 
 use signs::Fault;

@@ -17,7 +17,7 @@ fn check_opening<F: SignFamily>(
     seeds: &[u64],
     cells: &[i64],
 ) -> Result<(), Fault>
-    ensures { result ≡ answer (open_refusal (meaning family.now) groups columns seeds.now cells.now) tt }
+    ensures { result ≡ answer (open_refusal (F.meaning family.now) groups columns seeds.now cells.now) tt }
 {
     check_shape(groups, columns)?;
     check_length(seeds, groups * columns, SEEDS)?;
@@ -38,8 +38,8 @@ impl OpenSketch {
         seeds: &[u64],
         cells: &mut [i64],
     ) -> Result<OpenSketch, Fault>
-        ensures opens { Opens (meaning family.now) groups columns seeds.now cells.old result cells.new }
-        ensures law { SketchLaw (meaning family.now) }
+        ensures opens { Opens (F.meaning family.now) groups columns seeds.now cells.old result cells.new }
+        ensures law { SketchLaw (F.meaning family.now) }
     {
         check_opening(family, groups, columns, seeds, cells)?;
         clear(cells);

@@ -33,7 +33,7 @@ impl HeldSketch {
         seeds: &[u64],
         cells: &mut [i64],
     ) -> Result<Figures, Fault>
-        ensures { Releases (meaning family.now) seeds.now self.now.option (tally_of self.now.figures) cells.old result cells.new }
+        ensures { Releases (F.meaning family.now) seeds.now self.now.option (tally_of self.now.figures) cells.old result cells.new }
     {
         check_tables(family, seeds, &self.figures, cells)?;
         check_interval(family.width(), self.option.from, self.option.to)?;
@@ -53,7 +53,7 @@ impl HeldSketch {
         seeds: &[u64],
         cells: &mut [i64],
     ) -> Result<OpenSketch, Refused<HeldSketch>>
-        ensures { Withdraws (meaning family.now) seeds.now self.option (held_state self cells.old) result cells.new }
+        ensures { Withdraws (F.meaning family.now) seeds.now self.option (held_state self cells.old) result cells.new }
     {
         match self.released(family, seeds, cells) {
             Ok(figures) => {

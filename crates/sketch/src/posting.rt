@@ -17,12 +17,12 @@ pub(crate) fn booked<F: SignFamily>(
     cells: &mut [i64],
     booking: Booking,
 ) -> Figures
-    requires tables { tables_check (meaning family.now) seeds.now (tally_of figures) cells.old ≡ None }
-    requires interval { interval_check (meaning family.now).width booking.from booking.to ≡ None }
+    requires tables { tables_check (F.meaning family.now) seeds.now (tally_of figures) cells.old ≡ None }
+    requires interval { interval_check (F.meaning family.now).width booking.from booking.to ≡ None }
     requires light { unsigned_abs booking.weight ≤ 1000 }
     requires room { figures.gross + mass booking ≤ 2 ^ 26 }
     ensures figures { tally_of result ≡ gained_tally (tally_of figures) (mass booking) (signed_mass booking) }
-    ensures table { cells.new ≡ add_each cells.old (gains (meaning family.now) seeds.now booking) }
+    ensures table { cells.new ≡ add_each cells.old (gains (F.meaning family.now) seeds.now booking) }
 {
     let net = i64::from(booking.weight) * i64::from(booking.to - booking.from);
     book(family, seeds, cells, booking);
@@ -39,7 +39,7 @@ fn enter<F: SignFamily>(
     booking: Booking,
 ) -> Result<Figures, Fault>
     requires { (1 ≤ times) × (times ≤ 2) }
-    ensures { Enters (meaning family.now) seeds.now times booking (tally_of figures) cells.old result cells.new }
+    ensures { Enters (F.meaning family.now) seeds.now times booking (tally_of figures) cells.old result cells.new }
 {
     check_tables(family, seeds, &figures, cells)?;
     check_booking(family, times, figures.gross, booking)?;
@@ -58,7 +58,7 @@ impl OpenSketch {
         cells: &mut [i64],
         booking: Booking,
     ) -> Result<(), Fault>
-        ensures { Posts (meaning family.now) seeds.now booking (open_state self.old cells.old) (open_state self.new cells.new) result }
+        ensures { Posts (F.meaning family.now) seeds.now booking (open_state self.old cells.old) (open_state self.new cells.new) result }
     {
         self.figures = enter(self.figures, family, seeds, cells, 1, booking)?;
         Ok(())
@@ -74,7 +74,7 @@ impl OpenSketch {
         cells: &mut [i64],
         booking: Booking,
     ) -> Result<HeldSketch, Refused<OpenSketch>>
-        ensures { Holds (meaning family.now) seeds.now booking (open_state self cells.old) result cells.new }
+        ensures { Holds (F.meaning family.now) seeds.now booking (open_state self cells.old) result cells.new }
     {
         match enter(self.figures, family, seeds, cells, 2, booking) {
             Ok(figures) => Ok(HeldSketch {

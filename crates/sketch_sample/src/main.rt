@@ -1,5 +1,7 @@
 //! Makes five calls on a sketch, and prints what stands: the cells, the figures and the sketch's overlap with itself. Lines end with CR LF.
 
+#![tactic(auto)]
+
 use overlap::overlap;
 use parity::Eh3;
 use signs::Fault;

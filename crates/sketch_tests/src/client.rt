@@ -15,7 +15,7 @@ pub fn book_once<F: SignFamily>(
     cells: &mut [i64],
     booking: Booking,
 ) -> Result<OpenSketch, Fault>
-    ensures { OnOk result (cells.new ≡ map (cell_of (meaning family.now) (weight_at booking)) seeds.now) }
+    ensures { OnOk result (cells.new ≡ map (cell_of (F.meaning family.now) (weight_at booking)) seeds.now) }
 {
     let mut sketch = OpenSketch::open(family, groups, columns, seeds, cells)?;
     sketch.post(family, seeds, cells, booking)?;

@@ -1,5 +1,7 @@
 //! The sketch's calls and the overlap at their edges, and the law as a caller uses it.
 
+#![tactic(auto)]
+
 #[cfg(test)]
 mod bookings;
 #[cfg(test)]

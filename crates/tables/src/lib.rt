@@ -1,4 +1,7 @@
 //! The checks of shapes and of lent tables that calls on sketches share: each refuses with the number and the place of its rule.
+
+#![tactic(auto)]
+
 ghost use Rattle.std.specs.Prelude.{◌≡◌};
 ghost use Rattle.signs.specs.Faults.{answer};
 ghost use Rattle.model.specs.Calls.{shape_check, same_shape_check, length_check, seeds_check, cells_check, limit_check};
@@ -58,7 +61,7 @@ pub fn check_length<T>(table: &[T], due: usize, number: u64) -> Result<(), Fault
 
 /// Refuses the first seed that is not one of the family's (5).
 pub fn check_seeds<F: SignFamily>(family: &F, seeds: &[u64]) -> Result<(), Fault>
-    ensures { result ≡ answer (seeds_check (meaning family.now) seeds.now) tt }
+    ensures { result ≡ answer (seeds_check (F.meaning family.now) seeds.now) tt }
 {
     let count = family.seed_count();
     for (k, seed) in seeds.iter().enumerate() {

@@ -20,65 +20,65 @@ loop-block-init g c =
       subst (λ k. Enough F.width k a c.args.b) all (enough_start F.width a c.args.b),
     )
 
-pub returns-in-err-sum : goal.returns-in-err-sum
-returns-in-err-sum g c =
+pub returns-in_err-sum : goal.returns-in_err-sum
+returns-in_err-sum g c =
     let F = g.F.SignFamily.meaning c.args.family.now in
     let slots : 2 ^ c.args.width ≡ 2 ^ F.width = ap (λ x. 2 ^ x) c.requires.width in
-    let block = block_at F c.args.seed c.level-at-level.result c.loop-block.at (omega arith) (omega arith) c.level-at-level.ensures.starts in
-    absurd (ok_not_err _ _ (c.block-sum.ensures ∙ block) c.in-err-sum.was)
+    let block = block_at F c.args.seed c.level_at-level.result c.loop-block.at (omega arith) (omega arith) c.level_at-level.ensures.starts in
+    absurd (ok_not_err _ _ (c.block_sum.ensures ∙ block) c.in_err-sum.was)
 
 -- what a turn adds, and that it is small
-record Turn (g : given.Over) (c : goal.In-ok-sum g) : Type 0 where
+record Turn (g : given.Over) (c : goal.In_ok-sum g) : Type 0 where
   slots : c.args.b ≤ 2 ^ (g.F.SignFamily.meaning c.args.family.now).width
   few : 2 ^ (g.F.SignFamily.meaning c.args.family.now).width ≤ 2 ^ 24
   was : c.loop-block.sum ≡ sign_sum (g.F.SignFamily.meaning c.args.family.now) c.args.seed c.args.a (c.loop-block.at - c.args.a)
-  adds : c.in-ok-sum.field-0 ≡ sign_sum (g.F.SignFamily.meaning c.args.family.now) c.args.seed c.loop-block.at (2 ^ c.level-at-level.result)
-  small : nat_abs c.loop-block.sum + nat_abs c.in-ok-sum.field-0 ≤ 2 ^ 24
+  adds : c.in_ok-sum.field-0 ≡ sign_sum (g.F.SignFamily.meaning c.args.family.now) c.args.seed c.loop-block.at (2 ^ c.level_at-level.result)
+  small : nat_abs c.loop-block.sum + nat_abs c.in_ok-sum.field-0 ≤ 2 ^ 24
 
-turn : (g : given.Over) (c : goal.In-ok-sum g) → Turn g c
+turn : (g : given.Over) (c : goal.In_ok-sum g) → Turn g c
 turn g c =
     let F = g.F.SignFamily.meaning c.args.family.now in
     let L = g.met.F.SignFamily.lawful c.args.family.now in
     let s = c.args.seed in
-    let j = c.level-at-level.result in
+    let j = c.level_at-level.result in
     let a = c.args.a in
     let at = c.loop-block.at in
     let slots : 2 ^ c.args.width ≡ 2 ^ F.width = ap (λ x. 2 ^ x) c.requires.width in
     let few = few_slots F L in
-    let block = block_at F s j at (omega arith) (omega arith) c.level-at-level.ensures.starts in
-    let was : c.loop-block.sum ≡ sign_sum F s a (at - a) = sym c.loop-block.sum_is ∙ c.loop-block.invariant.2 in
-    let adds : c.in-ok-sum.field-0 ≡ sign_sum F s at (2 ^ j) = ok_same _ _ c.in-ok-sum.was (c.block-sum.ensures ∙ block) in
+    let block = block_at F s j at (omega arith) (omega arith) c.level_at-level.ensures.starts in
+    let was : c.loop-block.sum ≡ sign_sum F s a (at - a) = sym c.loop-block.sum-is ∙ c.loop-block.invariant.2 in
+    let adds : c.in_ok-sum.field-0 ≡ sign_sum F s at (2 ^ j) = ok_same _ _ c.in_ok-sum.was (c.block_sum.ensures ∙ block) in
     let old = signs_abs (at - a) (λ k. F.sign s (a + k)) in
     let new = signs_abs (2 ^ j) (λ k. F.sign s (at + k)) in
     let x : nat_abs c.loop-block.sum ≡ nat_abs (sign_sum F s a (at - a)) = ap nat_abs was in
-    let y : nat_abs c.in-ok-sum.field-0 ≡ nat_abs (sign_sum F s at (2 ^ j)) = ap nat_abs adds in
+    let y : nat_abs c.in_ok-sum.field-0 ≡ nat_abs (sign_sum F s at (2 ^ j)) = ap nat_abs adds in
     record { slots = omega arith; few = few; was = was; adds = adds; small = omega arith }
 
-pub overflow-add-sum : goal.overflow-add-sum
-overflow-add-sum g c = let t = turn g c in let e = c.loop-block.sum_is in let s = t.small in omega (arith, ints)
+pub overflow_add-sum : goal.overflow_add-sum
+overflow_add-sum g c = let t = turn g c in let e = c.loop-block.sum-is in let s = t.small in omega (arith, ints)
 
 pub loop-block-preserved : goal.loop-block-preserved
 loop-block-preserved g c =
     let F = g.F.SignFamily.meaning c.args.family.now in
     let t = turn g c in
-    let j = c.level-at-level.result in
+    let j = c.level_at-level.result in
     let a = c.args.a in
     let at = c.loop-block.at in
-    let size : 1 * 2 ^ j % 4294967296 ≡ 2 ^ j = one_shl j 32 c.level-at-level.ensures.small in
+    let size : 1 * 2 ^ j % 4294967296 ≡ 2 ^ j = one_shl j 32 c.level_at-level.ensures.small in
     let low : a ≤ at = c.loop-block.invariant.0 in
     let next : sign_sum F c.args.seed a (at - a) +ℤ sign_sum F c.args.seed at (2 ^ j) ≡ sign_sum F c.args.seed a (at + 1 * 2 ^ j % 4294967296 - a) =
     sum_next F c.args.seed a at (2 ^ j) low ∙ ap (λ x. sign_sum F c.args.seed a (at + x - a)) (sym size) in
     let was = t.was in
     let adds = t.adds in
     let small = t.small in
-    let bits = c.loop-block.sum_is in
-    let one : 2 * F.width - c.loop-block.-block ≡ suc (2 * F.width - (c.loop-block.-block + 1)) = omega arith in
-    let left : Enough F.width (2 * F.width - (c.loop-block.-block + 1)) (at + 2 ^ j) c.args.b =
-    enough_next F.width (2 * F.width - (c.loop-block.-block + 1)) at c.args.b j t.slots
-    (record { starts = c.level-at-level.ensures.starts; fits = c.level-at-level.ensures.fits; largest = c.level-at-level.ensures.largest })
+    let bits = c.loop-block.sum-is in
+    let one : 2 * F.width - c.loop-block._block ≡ suc (2 * F.width - (c.loop-block._block + 1)) = omega arith in
+    let left : Enough F.width (2 * F.width - (c.loop-block._block + 1)) (at + 2 ^ j) c.args.b =
+    enough_next F.width (2 * F.width - (c.loop-block._block + 1)) at c.args.b j t.slots
+    (record { starts = c.level_at-level.ensures.starts; fits = c.level_at-level.ensures.fits; largest = c.level_at-level.ensures.largest })
     (subst (λ k. Enough F.width k at c.args.b) one c.loop-block.invariant.3) in (
       omega arith,
-      omega (arith, c.level-at-level.ensures.fits),
+      omega (arith, c.level_at-level.ensures.fits),
       omega (arith, ints),
-      subst (λ x. Enough F.width (2 * F.width - (c.loop-block.-block + 1)) (at + x) c.args.b) (sym size) left,
+      subst (λ x. Enough F.width (2 * F.width - (c.loop-block._block + 1)) (at + x) c.args.b) (sym size) left,
     )

@@ -5,11 +5,11 @@ use Rattle.signs.proofs.Blocks.{ok, block_ok, asked}
 use Rattle.signs.specs.Shifts.{round, block_round}
 use Rattle.signs.proofs.offsets.OffsetSignFamily.block_sum.Goals as goal
 
-pub sum-round-requires : goal.sum-round-requires
-sum-round-requires g c =
+pub sum_round-requires : goal.sum_round-requires
+sum_round-requires g c =
     let F = g.F.SignFamily.meaning c.args.self.now.below in
     let L = g.met.F.SignFamily.lawful c.args.self.now.below in
-    let a = asked F.width F.seeds _ _ _ _ _ _ _ L.narrow c.width-width.ensures c.seed-count.ensures c.in-ok-check-seed.ensures c.in-ok-check-block.ensures in
+    let a = asked F.width F.seeds _ _ _ _ _ _ _ L.narrow c.width-width.ensures c.seed_count.ensures c.in_ok-check_seed.ensures c.in_ok-check_block.ensures in
     let n : 2 ^ c.width-width.result ≡ 2 ^ F.width = ap (λ x. 2 ^ x) c.width-width.ensures in
     let size = a.shift.size in
     let run = a.shift.run in
@@ -20,14 +20,14 @@ returns g c =
     let f = c.args.self.now in
     let F = g.F.SignFamily.meaning f.below in
     let L = g.met.F.SignFamily.lawful f.below in
-    let a = asked F.width F.seeds _ _ _ _ _ _ _ L.narrow c.width-width.ensures c.seed-count.ensures c.in-ok-check-seed.ensures c.in-ok-check-block.ensures in
+    let a = asked F.width F.seeds _ _ _ _ _ _ _ L.narrow c.width-width.ensures c.seed_count.ensures c.in_ok-check_seed.ensures c.in_ok-check_block.ensures in
     let s = c.args.seed in
     let j = c.args.level in
     let q = c.args.number in
     let v : ℕ → ℤ = λ i. value (F.sign s i) in
     let start : c.moved-start.result ≡ (q * 2 ^ j + f.offset) % 2 ^ c.width-width.result =
     c.moved-start.ensures.is ∙ ap (λ x. (x + f.offset) % 2 ^ c.width-width.result) a.shift.first in
-    c.sum-round.ensures
+    c.sum_round.ensures
     ∙ ap (λ x. ok (round v (2 ^ c.width-width.result) c.moved-start.result x)) a.shift.size
     ∙ ap (λ x. ok (round v (2 ^ c.width-width.result) x (2 ^ j))) start
     ∙ ap (λ x. ok (round v (2 ^ x) ((q * 2 ^ j + f.offset) % 2 ^ x) (2 ^ j))) c.width-width.ensures

@@ -88,7 +88,7 @@ open_passes F groups columns seeds found o =
     let n = groups * columns in
     both_none (shape_check groups columns) _ (shape_passes groups columns o.opening.shaped)
     (both_none (length_check seed_table n seeds) _ (length_passes seed_table n seeds o.opening.long)
-    (both_none (length_check own_table n found) _ (length_passes own_table n found o.found-long) (seeds_pass F seeds o.opening.known)))
+    (both_none (length_check own_table n found) _ (length_passes own_table n found o.found_long) (seeds_pass F seeds o.opening.known)))
 
 -- Those of the tables of a call that books.
 
@@ -114,8 +114,8 @@ tables_passed F seeds t cells e =
 pub tables_pass : (F : Meaning) (seeds : List ℕ) (t : Tally) (cells : List ℤ) → Fitting F seeds t cells → tables_check F seeds t cells ≡ None
 tables_pass F seeds t cells f =
     let n = entries t in
-    both_none (length_check seed_table n seeds) _ (length_passes seed_table n seeds f.seeds-long)
-    (both_none (length_check own_table n cells) _ (length_passes own_table n cells f.cells-long)
+    both_none (length_check seed_table n seeds) _ (length_passes seed_table n seeds f.seeds_long)
+    (both_none (length_check own_table n cells) _ (length_passes own_table n cells f.cells_long)
     (both_none (seeds_check F seeds) _ (seeds_pass F seeds f.known) (cells_pass 0 t.gross cells f.own)))
 
 -- Those of a booking.

@@ -51,5 +51,5 @@ module _ (F : Meaning) (seeds : List ℕ) {G C : ℕ} (opening : Opening F G C s
       let o = open_passed F groups columns seeds found e in
       open_passes F groups columns chosen found (record {
         opening = record { shaped = o.opening.shaped; long = chosen_long ∙ o.opening.long; known = known_too known };
-        found_long = o.found-long;
+        found_long = o.found_long;
       })

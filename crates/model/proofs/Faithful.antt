@@ -93,7 +93,7 @@ module _ (F : Meaning) (seeds : List ℕ) where
 
   pub kept : (r : Run) → Permitted F seeds r → KeptRun r
   unfolding after Permitted groups_of columns_of gross_of standing_option standing
-  kept (opened groups columns found) ok = let o = open_passed F groups columns seeds found ok in kept_opened found o.opening o.found-long
+  kept (opened groups columns found) ok = let o = open_passed F groups columns seeds found ok in kept_opened found o.opening o.found_long
   kept (post r b) ok =
       let k = kept r ok.0 in
       subst (λ p. Kept F seeds (groups_of r) (columns_of r) (after F seeds (post r b)) (gross_of (accepted F seeds) (post r b)) (standing (accepted F seeds) (post r b)) p) (sym (no_option (after F seeds r).option _ (ap (λ s. s.option) k.is) ok.1)) (kept_post (open_kept r k ok.1) b)

@@ -23,7 +23,7 @@ returns-then-seed-count g c =
     let k = c.loop-k.k in
     let large : F.seeds ≤ get_or seeds k 0 = omega arith in
     let bad = ap (λ t. refuse_if t (family_fault Seed k)) (le-leb F.seeds (get_or seeds k 0) large) in
-    ap refuse c.of-family.ensures ∙ sym (ap answered (each_hit (length seeds) k (seed_check_at F seeds) (family_fault Seed k) c.loop-k-test.true c.loop-k.invariant bad))
+    ap refuse c.of_family.ensures ∙ sym (ap answered (each_hit (length seeds) k (seed_check_at F seeds) (family_fault Seed k) c.loop-k-test.true c.loop-k.invariant bad))
 
 pub loop-k-preserved : goal.loop-k-preserved
 loop-k-preserved g c =

@@ -5,7 +5,7 @@ use Rattle.signs.specs.Family.{alike}
 use Rattle.listed.specs.Listed.{byte_sign}
 use Rattle.listed.specs.Cells.{cell_there, count_yes, count_no}
 use Rattle.listed.proofs.checks.agreeing_rows.Goals as goal
-use Rattle.listed.proofs.checks.agreeing_rows.Goals.{then-are-alike, else-are-alike}
+use Rattle.listed.proofs.checks.agreeing_rows.Goals.{then-are_alike, else-are_alike}
 
 pub loop-s-init : goal.loop-s-init
 unfolding count
@@ -29,11 +29,11 @@ loop-s-preserved c =
     let n = c.args.width in
     let s = c.loop-s.s in
     let p : ℕ → Bool = λ s. alike (byte_sign (get_or t (s * 2 ^ n + c.args.a) 0)) (byte_sign (get_or t (s * 2 ^ n + c.args.b) 0)) in
-    let e : c.are-alike.result ≡ p s =
-    c.are-alike.ensures
+    let e : c.are_alike.result ≡ p s =
+    c.are_alike.ensures
     ∙ ap (λ x. alike (byte_sign (get_or t (s * x + c.args.a) 0)) (byte_sign (get_or t (s * x + c.args.b) 0))) (columns_is n c.requires.width) in
     let old : c.loop-s.count ≡ count s p = c.loop-s.invariant.0 in
-    elim c.if-are-alike.branch [
-      | then-are-alike w ↦ (w.count-is ∙ ap (λ x. x + 1) old ∙ sym (count_yes s p (sym e ∙ w.if-are-alike.true)), omega (arith, w.count-is, c.loop-s.invariant.1))
-      | else-are-alike w ↦ (w.count-is ∙ old ∙ sym (count_no s p (sym e ∙ w.if-are-alike.false)), omega (arith, w.count-is, c.loop-s.invariant.1))
+    elim c.if-are_alike.branch [
+      | then-are_alike w ↦ (w.count-is ∙ ap (λ x. x + 1) old ∙ sym (count_yes s p (sym e ∙ w.if-are_alike.true)), omega (arith, w.count-is, c.loop-s.invariant.1))
+      | else-are_alike w ↦ (w.count-is ∙ old ∙ sym (count_no s p (sym e ∙ w.if-are_alike.false)), omega (arith, w.count-is, c.loop-s.invariant.1))
     ]

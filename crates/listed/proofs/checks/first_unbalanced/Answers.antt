@@ -25,8 +25,8 @@ loop-b-preserved c =
     let t = c.args.table.now in
     let a = c.loop-a.a in
     let b = c.loop-b.b in
-    let count = c.agreeing-rows.ensures.is in
-    let half = c.if-agreeing-rows-rows.false in
+    let count = c.agreeing_rows.ensures.is in
+    let half = c.if-agreeing_rows-rows.false in
     let e : 2 * agreeing (listed n m t) a b ≡ m = cc in
     each_more b (pair_check n m t a) c.loop-b.invariant (pair_good n m t a b e)
 
@@ -40,14 +40,14 @@ loop-a-preserved c =
     let end : c.loop-b.b ≡ 2 ^ n = omega arith in
     each_more a (column_check n m t) c.loop-a.invariant (ap (λ k. check_each k (pair_check n m t a)) (sym end) ∙ c.loop-b.invariant)
 
-pub returns-then-agreeing-rows-rows : goal.returns-then-agreeing-rows-rows
-returns-then-agreeing-rows-rows c =
+pub returns-then-agreeing_rows-rows : goal.returns-then-agreeing_rows-rows
+returns-then-agreeing_rows-rows c =
     let n = c.args.width in
     let m = c.args.rows in
     let t = c.args.table.now in
     let a = c.loop-a.a in
     let b = c.loop-b.b in
     let columns : 1 * 2 ^ n % 4294967296 ≡ 2 ^ n = one_shl n 32 (omega arith) in
-    let e : 2 * agreeing (listed n m t) a b ≡ m → ⊥ = λ z. c.if-agreeing-rows-rows.true (ap (λ x. 2 * x) c.agreeing-rows.ensures.is ∙ z) in
+    let e : 2 * agreeing (listed n m t) a b ≡ m → ⊥ = λ z. c.if-agreeing_rows-rows.true (ap (λ x. 2 * x) c.agreeing_rows.ensures.is ∙ z) in
     let f = family_fault Unbalanced (a * 64 + b) in
     sym (each_hit (2 ^ n) a (column_check n m t) f (omega arith) c.loop-a.invariant (each_hit (2 ^ n) b (pair_check n m t a) f (omega arith) c.loop-b.invariant (pair_bad n m t a b (omega arith) e)))

@@ -11,18 +11,18 @@ pub loop-k-init : goal.loop-k-init
 loop-k-init c = sym (sum_none _)
 
 -- what a turn adds, and that it is small
-record Turn (c : goal.After-value-of-total) : Type 0 where
+record Turn (c : goal.After-value_of-total) : Type 0 where
   small : nat_abs (sum c.loop-k.k (λ k. value (byte_sign (get_or c.args.table.now (c.args.first + k) 0)))) ≤ c.loop-k.k
   one : nat_abs (value (byte_sign (get_or c.args.table.now (c.args.first + c.loop-k.k) 0))) ≡ 1
-  adds : c.value-of-total.result ≡ value (byte_sign (get_or c.args.table.now (c.args.first + c.loop-k.k) 0))
+  adds : c.value_of-total.result ≡ value (byte_sign (get_or c.args.table.now (c.args.first + c.loop-k.k) 0))
 
-turn : (c : goal.After-value-of-total) → Turn c
+turn : (c : goal.After-value_of-total) → Turn c
 turn c =
     let f : ℕ → Sign = λ k. byte_sign (get_or c.args.table.now (c.args.first + k) 0) in
-    record { small = signs_abs c.loop-k.k f; one = value_abs (f c.loop-k.k); adds = c.value-of-total.ensures }
+    record { small = signs_abs c.loop-k.k f; one = value_abs (f c.loop-k.k); adds = c.value_of-total.ensures }
 
-pub overflow-add-total : goal.overflow-add-total
-overflow-add-total c = let t = turn c in let old = c.loop-k.invariant in omega (arith, ints)
+pub overflow_add-total : goal.overflow_add-total
+overflow_add-total c = let t = turn c in let old = c.loop-k.invariant in omega (arith, ints)
 
 pub loop-k-preserved : goal.loop-k-preserved
 loop-k-preserved c =

@@ -22,9 +22,9 @@ returns c =
     let e = trailing_divides 64 (s / 2) j c.if-seed-level.false in
     let size : 1 * 2 ^ j % 4294967296 ≡ 2 ^ j = one_shl j 32 c.requires.level in
     let first : q * 2 ^ j % 4294967296 ≡ q * 2 ^ j = mod-eq_of_lt c.requires.number in
-    let fits : SFits w64 c.signed.result = record { sfits = c.signed.type-inv } in
+    let fits : SFits w64 c.signed.result = record { sfits = c.signed.type_inv } in
     to_z-of_z w64 c.signed.result fits
     ∙ c.signed.ensures
-    ∙ ap (λ x. pos x *ℤ value c.sign-by.result) size
-    ∙ ap (λ x. pos (2 ^ j) *ℤ value x) (c.sign-by.ensures ∙ ap sign_by c.bch3-ones.ensures.is ∙ ap (bch3_sign s) first)
+    ∙ ap (λ x. pos x *ℤ value c.sign_by.result) size
+    ∙ ap (λ x. pos (2 ^ j) *ℤ value x) (c.sign_by.ensures ∙ ap sign_by c.bch3_ones.ensures.is ∙ ap (bch3_sign s) first)
     ∙ sym (cond-true (eqb (s / 2 % 2 ^ j) 0) _ _ (eq-eqb (s / 2 % 2 ^ j) 0 e))

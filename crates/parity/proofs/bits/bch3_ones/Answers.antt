@@ -9,8 +9,8 @@ few s i h =
     let l : x < 2 ^ 32 = omega (arith, and_le_r (s / 2) i) in
     omega (arith, ones-le 32 x l)
 
-pub overflow-add-result : goal.overflow-add-result
-overflow-add-result c = let f = few c.args.seed c.from.result (omega arith) in record { fits = omega arith }
+pub overflow_add-result : goal.overflow_add-result
+overflow_add-result c = let f = few c.args.seed c.from.result (omega arith) in record { fits = omega arith }
 
 pub returns : goal.returns
 returns c =

@@ -2,8 +2,8 @@ use Rattle.std.proofs.Common.{◌≡◌, ℕ, ◌+◌, ◌*◌, ◌/◌, ◌%◌
 use Rattle.parity.proofs.Eh3Sums.{even_level, odd_level}
 use Rattle.parity.proofs.eh3.closed_sum.Goals as goal
 
-pub even-sum-requires : goal.even-sum-requires
-even-sum-requires c =
+pub even_sum-requires : goal.even_sum-requires
+even_sum-requires c =
     let j = c.args.level in
     let e : c.args.number * 4 ^ (j / 2) ≡ c.args.number * 2 ^ j = ap (λ x. c.args.number * x) (even_level j (omega arith)) in
     record { seed = omega arith; half = omega arith; number = omega (arith, pow_pos j) }
@@ -22,17 +22,17 @@ halves q j odd h =
     let one : q * 1 ≤ q * 2 ^ j = mul-le-mul_left q (pow_pos j) in
     record { number = omega arith; first = omega arith; second = omega arith }
 
-pub overflow-mul-number : goal.overflow-mul-number
-overflow-mul-number c = let h = halves c.args.number c.args.level (omega arith) c.requires.block in let n = h.number in record { fits = omega arith }
+pub overflow_mul-number : goal.overflow_mul-number
+overflow_mul-number c = let h = halves c.args.number c.args.level (omega arith) c.requires.block in let n = h.number in record { fits = omega arith }
 
-pub even-sum-requires-2 : goal.even-sum-requires-2
-even-sum-requires-2 c = let h = halves c.args.number c.args.level (omega arith) c.requires.block in record { seed = omega arith; half = omega arith; number = h.first }
+pub even_sum-requires-2 : goal.even_sum-requires-2
+even_sum-requires-2 c = let h = halves c.args.number c.args.level (omega arith) c.requires.block in record { seed = omega arith; half = omega arith; number = h.first }
 
-pub overflow-mul-number-2 : goal.overflow-mul-number-2
-overflow-mul-number-2 c = let h = halves c.args.number c.args.level (omega arith) c.requires.block in let n = h.number in record { fits = omega arith }
+pub overflow_mul-number-2 : goal.overflow_mul-number-2
+overflow_mul-number-2 c = let h = halves c.args.number c.args.level (omega arith) c.requires.block in let n = h.number in record { fits = omega arith }
 
-pub overflow-add-number : goal.overflow-add-number
-overflow-add-number c = let h = halves c.args.number c.args.level (omega arith) c.requires.block in let n = h.number in record { fits = omega arith }
+pub overflow_add-number : goal.overflow_add-number
+overflow_add-number c = let h = halves c.args.number c.args.level (omega arith) c.requires.block in let n = h.number in record { fits = omega arith }
 
-pub even-sum-requires-3 : goal.even-sum-requires-3
-even-sum-requires-3 c = let h = halves c.args.number c.args.level (omega arith) c.requires.block in record { seed = omega arith; half = omega arith; number = h.second }
+pub even_sum-requires-3 : goal.even_sum-requires-3
+even_sum-requires-3 c = let h = halves c.args.number c.args.level (omega arith) c.requires.block in record { seed = omega arith; half = omega arith; number = h.second }

@@ -16,11 +16,11 @@ returns c =
     let few : 2 ^ m ≤ 2 ^ 12 = pow_mono {i = m} {j = 12} (omega arith) in
     let x = bch3_ones s (q * 4 ^ m) + pairs 16 (q * 4 ^ m) in
     let signed = c.signed.ensures in
-    let sign = c.sign-by.ensures in
-    let ones = c.eh3-ones.ensures.is in
-    let zeros = c.zero-pair-count-zeros.ensures.is in
+    let sign = c.sign_by.ensures in
+    let ones = c.eh3_ones.ensures.is in
+    let zeros = c.zero_pair_count-zeros.ensures.is in
     let is : c.signed.result ≡ term (2 ^ m) (x + zero_pairs m (s / 2)) = cc in
-    let same = to_z-of_z w64 c.signed.result (record { sfits = c.signed.type-inv }) in
+    let same = to_z-of_z w64 c.signed.result (record { sfits = c.signed.type_inv }) in
     let rule = rule_is (zero_pairs m (s / 2)) (2 ^ m) x in
     let abs : nat_abs (to_z w64 (of_z w64 c.signed.result)) ≡ 2 ^ m = ap nat_abs (same ∙ is) ∙ term_abs (2 ^ m) (x + zero_pairs m (s / 2)) in
     record { is = cc; small = omega arith }

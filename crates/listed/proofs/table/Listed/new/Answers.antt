@@ -8,9 +8,9 @@ use Rattle.listed.proofs.table.Listed.new.Goals as goal
 abbrev answered : ℕ → ℕ → List ℕ → Result (Unit {0}) Fault
 answered n m t = answer (listed_refusal n m t) tt
 
-pub invariant-of-result : goal.invariant-of-result
-invariant-of-result c =
+pub invariant_of-result : goal.invariant_of-result
+invariant_of-result c =
     let n = c.args.width in
     let m = c.args.rows in
-    let g : Good n m (vec_items c.args.table) = good n m _ _ (c.in-ok-check-table.ensures ∙ ap (answered n m) c.deref.ensures.value) in
-    (g.wide, (g.some, (g.size, (g.balanced, tt))))
+    let g : Good n m (vec_items c.args.table) = good n m _ _ (c.in_ok-check_table.ensures ∙ ap (answered n m) c.deref.ensures.value) in
+    record { wide = g.wide; some = g.some; size = g.size; balanced = g.balanced }

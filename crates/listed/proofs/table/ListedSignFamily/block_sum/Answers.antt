@@ -7,12 +7,12 @@ use Rattle.listed.specs.Listed.{listed, byte_sign}
 use Rattle.listed.specs.Cells.{row_start, row_there, small_table}
 use Rattle.listed.proofs.table.ListedSignFamily.block_sum.Goals as goal
 
-pub run-sum-requires : goal.run-sum-requires
-run-sum-requires c =
+pub run_sum-requires : goal.run_sum-requires
+run_sum-requires c =
     let f = c.args.self.now in
     let n = f.width in
     let s = c.args.seed in
-    let a = asked n f.rows _ _ _ _ _ _ _ (omega arith) refl c.seed-count.ensures c.in-ok-check-seed.ensures c.in-ok-check-block.ensures in
+    let a = asked n f.rows _ _ _ _ _ _ _ (omega arith) refl c.seed_count.ensures c.in_ok-check_seed.ensures c.in_ok-check_block.ensures in
     let start = row_start n f.rows s (omega arith) (omega arith) a.seed in
     let size = a.shift.size in
     let first = a.shift.first in
@@ -30,14 +30,14 @@ returns c =
     let s = c.args.seed in
     let j = c.args.level in
     let q = c.args.number in
-    let a = asked n f.rows _ _ _ _ _ _ _ (omega arith) refl c.seed-count.ensures c.in-ok-check-seed.ensures c.in-ok-check-block.ensures in
+    let a = asked n f.rows _ _ _ _ _ _ _ (omega arith) refl c.seed_count.ensures c.in_ok-check_seed.ensures c.in_ok-check_block.ensures in
     let start = row_start n f.rows s (omega arith) (omega arith) a.seed in
     let g : ℕ → ℤ = λ i. value (byte_sign (get_or t i 0)) in
-    let fits : SFits w64 c.run-sum.result = record { sfits = c.run-sum.type-inv } in
+    let fits : SFits w64 c.run_sum.result = record { sfits = c.run_sum.type_inv } in
     let first : s * 2 ^ n % 4294967296 + q * 2 ^ j % 4294967296 ≡ s * 2 ^ n + q * 2 ^ j = let x = a.shift.first in omega arith in
     ap ok
-    (to_z-of_z w64 c.run-sum.result fits
-    ∙ c.run-sum.ensures
+    (to_z-of_z w64 c.run_sum.result fits
+    ∙ c.run_sum.ensures
     ∙ ap (λ u. run (λ i. value (byte_sign (get_or u i 0))) (s * 2 ^ n % 4294967296 + q * 2 ^ j % 4294967296) (1 * 2 ^ j % 4294967296)) c.deref.ensures.value
     ∙ ap (λ x. run g x (1 * 2 ^ j % 4294967296)) first
     ∙ ap (run g (s * 2 ^ n + q * 2 ^ j)) a.shift.size

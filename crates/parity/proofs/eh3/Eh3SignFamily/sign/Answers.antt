@@ -15,7 +15,7 @@ returns c =
     let n = c.args.self.now.width in
     let s = c.args.seed in
     let i = c.args.slot in
-    let seed : s < 2 ^ (n + 1) = subst (λ x. s < x) c.seed-count.ensures (seed_passed _ s _ c.in-ok-check-seed.ensures) in
-    let slot : i < 2 ^ n = slot_passed n i _ c.in-ok-check-slot.ensures in
-    ap signed (c.sign-by.ensures ∙ ap sign_by c.eh3-ones.ensures.is ∙ sign_32 n s i c.args.self.now.even (omega arith) slot)
+    let seed : s < 2 ^ (n + 1) = subst (λ x. s < x) c.seed_count.ensures (seed_passed _ s _ c.in_ok-check_seed.ensures) in
+    let slot : i < 2 ^ n = slot_passed n i _ c.in_ok-check_slot.ensures in
+    ap signed (c.sign_by.ensures ∙ ap sign_by c.eh3_ones.ensures.is ∙ sign_32 n s i c.args.self.now.even (omega arith) slot)
     ∙ sym (sign_ok (eh3 n) s i seed slot)

@@ -14,7 +14,7 @@ returns-then-above-half c =
     let z = get_or xs i (pos 0) in
     let fits : SFits w64 (get_or xs i (pos 0)) = search rules in
     let same = to_z-of_z w64 z fits in
-    let halved = ap (λ n. n / 2) c.saturating-sub-half.ensures in
+    let halved = ap (λ n. n / 2) c.saturating_sub-half.ensures in
     let test = central_yes xs z _ halved _ _ (c.ranks-below.ensures.smaller ∙ ap (smaller le_z xs) same) (c.ranks-below.ensures.greater ∙ ap (greater le_z xs) same) c.if-below-half.true c.if-above-half.true in
     same ∙ sym (found (central le_z xs) xs i c.loop-total.invariant c.loop-total-test.true test)
 
@@ -25,7 +25,7 @@ loop-total-preserved c =
     let z = get_or xs i (pos 0) in
     let fits : SFits w64 (get_or xs i (pos 0)) = search rules in
     let same = to_z-of_z w64 z fits in
-    let halved = ap (λ n. n / 2) c.saturating-sub-half.ensures in
+    let halved = ap (λ n. n / 2) c.saturating_sub-half.ensures in
     let on = passed_by (central le_z xs) xs i c.loop-total.invariant c.loop-total-test.true in
     elim c.else-below-half.branch [
       | else-below-half-via-then-below-half+else-above-half w ↦ on (central_high xs z _ halved _ (c.ranks-below.ensures.greater ∙ ap (greater le_z xs) same) w.if-above-half.false)

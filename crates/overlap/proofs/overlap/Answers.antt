@@ -16,19 +16,19 @@ use Rattle.overlap.proofs.overlap.Goals.{In-ok-check-overlap}
 
 module _ (c : In-ok-check-overlap) where
   abbrev refusal : Refusal
-  refusal = overlap_refusal (tally_of c.args.first.now) c.args.first-cells.now (tally_of c.args.second.now) c.args.second-cells.now c.args.totals.now
+  refusal = overlap_refusal (tally_of c.args.first.now) c.args.first_cells.now (tally_of c.args.second.now) c.args.second_cells.now c.args.totals.now
 
   free : refusal ≡ None
   free =
-      let passed = c.in-ok-check-overlap.field-0 in
-      let told : Ok passed ≡ answer refusal tt = c.in-ok-check-overlap.ensures in
+      let passed = c.in_ok-check_overlap.field-0 in
+      let told : Ok passed ≡ answer refusal tt = c.in_ok-check_overlap.ensures in
       accepted refusal tt passed (sym told)
 
-  fine : Comparable (tally_of c.args.first.now) c.args.first-cells.now (tally_of c.args.second.now) c.args.second-cells.now c.args.totals.now
+  fine : Comparable (tally_of c.args.first.now) c.args.first_cells.now (tally_of c.args.second.now) c.args.second_cells.now c.args.totals.now
   fine = overlap_passed _ _ _ _ _ free
 
   abbrev one : ℕ → ℤ
-  one = group_total c.args.first.now.columns c.args.first-cells.now c.args.second-cells.now
+  one = group_total c.args.first.now.columns c.args.first_cells.now c.args.second_cells.now
 
   abbrev all : List ℤ
   all = map one (range_with_len 0 c.args.first.now.groups)
@@ -37,46 +37,46 @@ module _ (c : In-ok-check-overlap) where
   many = length-map-range_with_len one 0 c.args.first.now.groups
 
   long : length all ≡ length c.args.totals.now
-  long = many ∙ sym fine.totals-long
+  long = many ∙ sym fine.totals_long
 
-pub total-of-requires : goal.total-of-requires
-total-of-requires c =
-    let f = fine (goal.at.total-of-requires c).In-ok-check-overlap in
+pub total_of-requires : goal.total_of-requires
+total_of-requires c =
+    let f = fine (goal.at.total_of-requires c).In_ok-check_overlap in
     let n = c.args.first.now.columns in
     let below : c.loop-group.group < c.args.first.now.groups = omega (arith, c.groups-group-end.ensures, c.loop-group-test.true) in
     let row : suc c.loop-group.group * n ≤ c.args.first.now.groups * n = mul-le-mul_right n below in
     record {
-      first = subst (λ m. suc c.loop-group.group * m ≤ length c.args.first-cells.now) (sym c.columns-columns.ensures) (omega (arith, row, f.first-long));
-      second = subst (λ m. suc c.loop-group.group * m ≤ length c.args.second-cells.now) (sym c.columns-columns.ensures) (omega (arith, row, f.second-long));
+      first = subst (λ m. suc c.loop-group.group * m ≤ length c.args.first_cells.now) (sym c.columns-columns.ensures) (omega (arith, row, f.first_long));
+      second = subst (λ m. suc c.loop-group.group * m ≤ length c.args.second_cells.now) (sym c.columns-columns.ensures) (omega (arith, row, f.second_long));
       few = omega (arith, c.columns-columns.ensures, c.args.first.now.shaped.3);
       first_small = λ k h. omega (arith, f.first_small k h, c.args.first.now.limited);
-      second_small = λ k h. omega (arith, f.second-small k h, c.args.second.now.limited);
+      second_small = λ k h. omega (arith, f.second_small k h, c.args.second.now.limited);
     }
 
 pub loop-group-preserved : goal.loop-group-preserved
 loop-group-preserved c =
-    let w = (goal.at.loop-group-preserved c).In-ok-check-overlap in
+    let w = (goal.at.loop-group-preserved c).In_ok-check_overlap in
     let i = c.loop-group.group in
     let below : i < c.args.first.now.groups = omega (arith, c.groups-group-end.ensures, c.loop-group-test.true) in
-    let fits : SFits w64 c.total-of.result = search rules in
-    let total : c.total-of.result ≡ one w i = c.total-of.ensures ∙ ap (λ m. group_total m c.args.first-cells.now c.args.second-cells.now i) c.columns-columns.ensures in
-    let here : to_z w64 (of_z w64 c.total-of.result) ≡ get_or (all w) i (pos 0) =
-    to_z-of_z w64 c.total-of.result fits ∙ total ∙ sym (get_or-map-range_with_len (one w) 0 c.args.first.now.groups i i (pos 0) below (omega arith)) in
+    let fits : SFits w64 c.total_of.result = search rules in
+    let total : c.total_of.result ≡ one w i = c.total_of.ensures ∙ ap (λ m. group_total m c.args.first_cells.now c.args.second_cells.now i) c.columns-columns.ensures in
+    let here : to_z w64 (of_z w64 c.total_of.result) ≡ get_or (all w) i (pos 0) =
+    to_z-of_z w64 c.total_of.result fits ∙ total ∙ sym (get_or-map-range_with_len (one w) 0 c.args.first.now.groups i i (pos 0) below (omega arith)) in
     ap (set c.loop-group.totals i) here
-    ∙ swept_more c.args.totals.now (all w) (long w) c.loop-group.totals i (pos 0) (omega (arith, (fine w).totals-long, below)) c.loop-group.invariant
+    ∙ swept_more c.args.totals.now (all w) (long w) c.loop-group.totals i (pos 0) (omega (arith, (fine w).totals_long, below)) c.loop-group.invariant
 
 pub returns : goal.returns
 returns c =
-    let w = (goal.at.returns c).In-ok-check-overlap in
+    let w = (goal.at.returns c).In_ok-check_overlap in
     let t = tally_of c.args.first.now in
-    let fits : SFits w64 c.middle-of.result = search rules in
-    let past : length c.args.totals.now ≤ c.loop-group.group = omega (arith, (fine w).totals-long, c.groups-group-end.ensures, c.loop-group-test.false) in
+    let fits : SFits w64 c.middle_of.result = search rules in
+    let past : length c.args.totals.now ≤ c.loop-group.group = omega (arith, (fine w).totals_long, c.groups-group-end.ensures, c.loop-group-test.false) in
     let done : c.loop-group.totals ≡ all w = swept_all c.args.totals.now (all w) (long w) c.loop-group.totals c.loop-group.group past c.loop-group.invariant in
     let odd : length (all w) % 2 ≡ 1 = ap (λ n. n % 2) (many w) ∙ c.args.first.now.shaped.0 in
-    let middle : to_z w64 (of_z w64 c.middle-of.result) ≡ middle_of (all w) = to_z-of_z w64 c.middle-of.result fits ∙ c.middle-of.ensures ∙ ap middle_of done in
+    let middle : to_z w64 (of_z w64 c.middle_of.result) ≡ middle_of (all w) = to_z-of_z w64 c.middle_of.result fits ∙ c.middle_of.ensures ∙ ap middle_of done in
     let made : ℕ → ℤ → Estimate = λ n z. record { columns = n; middle = z } in
     record {
-      answers = ap₂ (λ n z. Ok (made n z)) c.columns-columns.ensures middle ∙ sym (ap (λ r. answer r (estimate t.groups t.columns c.args.first-cells.now c.args.second-cells.now)) (free w));
+      answers = ap₂ (λ n z. Ok (made n z)) c.columns-columns.ensures middle ∙ sym (ap (λ r. answer r (estimate t.groups t.columns c.args.first_cells.now c.args.second_cells.now)) (free w));
       table = done ∙ sym (ap (λ r. unless r c.args.totals.now (all w)) (free w));
       middle = subst₂ Middle (sym done) (sym middle) (middle_of_lem (all w) odd);
     }

@@ -37,9 +37,9 @@ returns g c =
     let table : c.booked.new.cells ≡ add_each cells (gains F seeds taken) = c.booked.ensures.table in
     let off = ap (weighing b) (negated b.weight c.args.self.now.light) in
     let same : mass (opposite b) ≡ mass b = ap (λ n. n * slots b) (abs_neg b.weight) in
-    let tables = accepted (tables_check F seeds t cells) tt tt (sym c.in-ok-check-tables.ensures) in
+    let tables = accepted (tables_check F seeds t cells) tt tt (sym c.in_ok-check_tables.ensures) in
     let interval : interval_check F.width b.from b.to ≡ None =
-    ap (λ n. interval_check n b.from b.to) (sym c.width.ensures) ∙ accepted (interval_check c.width.result b.from b.to) tt tt (sym c.in-ok-check-interval.ensures) in
+    ap (λ n. interval_check n b.from b.to) (sym c.width.ensures) ∙ accepted (interval_check c.width.result b.from b.to) tt tt (sym c.in_ok-check_interval.ensures) in
     let free = both_none (tables_check F seeds t cells) (interval_check F.width b.from b.to) tables interval in
     record {
       answers = ap ok (figures ∙ ap₂ (gained_tally t) (ap mass off ∙ same) (ap signed_mass off)) ∙ sym (ap (λ r. answer r (gained_tally t (mass b) (signed_mass (opposite b)))) free);

@@ -11,14 +11,14 @@ use Rattle.sketch.proofs.OpenSketch.open.Goals as goal
 abbrev ok : State → Result State Fault
 ok s = Ok s
 
-pub returns-in-err-check-opening : goal.returns-in-err-check-opening
-returns-in-err-check-opening g c =
+pub returns-in_err-check_opening : goal.returns-in_err-check_opening
+returns-in_err-check_opening g c =
     let F = g.F.SignFamily.meaning c.args.family.now in
     let found = c.args.cells.now in
     let made = begun c.args.groups c.args.columns found in
     let refusal = open_refusal F c.args.groups c.args.columns c.args.seeds.now found in
-    let p = err_from_is_err_and c.from-residual.result c.from-residual.ensures.1 in
-    let bad = refused refusal tt c.in-err-check-opening.field-0.0 c.in-err-check-opening.ensures in
+    let p = err_from_is_err_and c.from_residual.result c.from_residual.ensures.1 in
+    let bad = refused refusal tt c.in_err-check_opening.field-0.0 c.in_err-check_opening.ensures in
     record {
       opens = record {
         answers = ap (λ r. open_answer r found) p.1 ∙ ap Err p.2 ∙ sym (ap (λ r. answer r made) bad);
@@ -33,7 +33,7 @@ returns g c =
     let found = c.args.cells.now in
     let made = begun c.args.groups c.args.columns found in
     let refusal = open_refusal F c.args.groups c.args.columns c.args.seeds.now found in
-    let free = accepted refusal tt tt (sym c.in-ok-check-opening.ensures) in
+    let free = accepted refusal tt tt (sym c.in_ok-check_opening.ensures) in
     record {
       opens = record {
         answers = ap (λ cells. ok (record { tally = made.tally; cells = cells; option = made.option })) c.clear.ensures ∙ sym (ap (λ r. answer r made) free);

@@ -68,11 +68,11 @@ module _ (g : given.Over) (c : In-Ok g) where
   there : c.loop-k.k < length c.args.cells.now
   there = omega (arith, c.requires.same, c.loop-k-test.true)
 
-pub overflow-mul-cells : goal.overflow-mul-cells
-overflow-mul-cells g c = let few = small g (start g c) (seed g c) in subst (SFits w64) (sym (product_is g c)) (small_fits _ (omega arith))
+pub overflow_mul-cells : goal.overflow_mul-cells
+overflow_mul-cells g c = let few = small g (start g c) (seed g c) in subst (SFits w64) (sym (product_is g c)) (small_fits _ (omega arith))
 
-pub overflow-add-cells : goal.overflow-add-cells
-overflow-add-cells g c = let w = (goal.at.overflow-add-cells g c).In-Ok in add_fits (ready g (start g w)) c.loop-k.cells c.loop-k.k _ (there g w) (here g w) c.loop-k.invariant
+pub overflow_add-cells : goal.overflow_add-cells
+overflow_add-cells g c = let w = (goal.at.overflow_add-cells g c).In-Ok in add_fits (ready g (start g w)) c.loop-k.cells c.loop-k.k _ (there g w) (here g w) c.loop-k.invariant
 
 pub loop-k-preserved : goal.loop-k-preserved
 loop-k-preserved g c = let w = (goal.at.loop-k-preserved g c).In-Ok in add_more (ready g (start g w)) c.loop-k.cells c.loop-k.k _ (there g w) (here g w) c.loop-k.invariant

@@ -10,7 +10,7 @@ book-requires g c =
     let fitting = tables_passed F c.args.seeds.now (tally_of c.args.figures) c.args.cells.now c.requires.tables in
     let interval = interval_there F.width c.args.booking.from c.args.booking.to c.requires.interval in
     record {
-      same = fitting.seeds-long ∙ sym fitting.cells-long;
+      same = fitting.seeds_long ∙ sym fitting.cells_long;
       known = fitting.known;
       own = λ k h. omega (arith, fitting.own k h, c.args.figures.limited);
       some = interval.some;

@@ -7,10 +7,10 @@ use Rattle.family_tests.specs.Turned.{turned}
 use Rattle.family_tests.specs.Turns.{sum_turned}
 use Rattle.family_tests.proofs.turned.TurnedSignFamily.block_sum.Goals as goal
 
-pub overflow-sub-result : goal.overflow-sub-result
-overflow-sub-result g c =
+pub overflow_sub-result : goal.overflow_sub-result
+overflow_sub-result g c =
     let b = c.args.self.now.below in
-    let a = answered (g.F.SignFamily.meaning b) (g.met.F.SignFamily.lawful b) _ _ _ _ c.in-ok-sum.ensures in
+    let a = answered (g.F.SignFamily.meaning b) (g.met.F.SignFamily.lawful b) _ _ _ _ c.in_ok-sum.ensures in
     let s = a.small in
     omega (arith, ints)
 
@@ -21,8 +21,8 @@ returns g c =
     let s = c.args.seed in
     let j = c.args.level in
     let q = c.args.number in
-    let x = c.in-ok-sum.sum in
-    let a = answered F (g.met.F.SignFamily.lawful b) s j q x c.in-ok-sum.ensures in
+    let x = c.in_ok-sum.sum in
+    let a = answered F (g.met.F.SignFamily.lawful b) s j q x c.in_ok-sum.ensures in
     let small = a.small in
     let is = a.is in
     let turn = sum_turned (2 ^ j) (λ k. F.sign s (q * 2 ^ j + k)) in

@@ -12,9 +12,9 @@ use Rattle.sketch.specs.Promises.{tally_of}
 use Rattle.tables.proofs.Swept.{swept_more, swept_all}
 use Rattle.overlap.proofs.Comparable.{Comparable, overlap_passed}
 use Rattle.overlap.proofs.overlap.Goals as goal
-use Rattle.overlap.proofs.overlap.Goals.{In-ok-check-overlap}
+use Rattle.overlap.proofs.overlap.Goals.{In_ok-check_overlap}
 
-module _ (c : In-ok-check-overlap) where
+module _ (c : In_ok-check_overlap) where
   abbrev refusal : Refusal
   refusal = overlap_refusal (tally_of c.args.first.now) c.args.first_cells.now (tally_of c.args.second.now) c.args.second_cells.now c.args.totals.now
 

@@ -2,6 +2,7 @@ use Rattle.std.proofs.Common.{not, get_or, take, pos, count_by, ap, ◌∙◌, w
 use lib.Signed.{le_z}
 use Rattle.std.proofs.lemmas.List.{take_all}
 use Rattle.std.proofs.lemmas.Int.{to_z-of_z}
+use Rattle.std.proofs.lemmas.Cmp.{int_ranked}
 use Rattle.model.specs.Middle.{smaller, greater}
 use Rattle.overlap.proofs.Counts.{when_less, when_equal, counted_yes, counted_no}
 use Rattle.overlap.proofs.ranks.Goals as goal
@@ -20,9 +21,9 @@ loop-total-preserved c =
     let yes_above = counted_yes (λ y. not (le_z y P)) xs i c.loop-total.above c.match-cmp.above here inv.1 in
     let no_above = counted_no (λ y. not (le_z y P)) xs i c.loop-total.above c.match-cmp.above here inv.1 in
     elim c.match-cmp.branch [
-      | in-Less w ↦ let t = when_less x P w.in-Less.ensures in (yes_below w.below-is t.0, no_above w.above-is t.1)
-      | in-Equal w ↦ let t = when_equal x P w.in-Equal.ensures in (no_below w.below-is t.0, no_above w.above-is t.1)
-      | in-Greater w ↦ let t = when_less P x w.in-Greater.ensures in (no_below w.below-is t.1, yes_above w.above-is t.0)
+      | in-Less w ↦ let t = when_less x P (int_ranked x P _ w.in-Less.ensures) in (yes_below w.below-is t.0, no_above w.above-is t.1)
+      | in-Equal w ↦ let t = when_equal x P (int_ranked x P _ w.in-Equal.ensures) in (no_below w.below-is t.0, no_above w.above-is t.1)
+      | in-Greater w ↦ let t = when_less P x (int_ranked x P _ w.in-Greater.ensures) in (no_below w.below-is t.1, yes_above w.above-is t.0)
     ]
 
 pub returns : goal.returns

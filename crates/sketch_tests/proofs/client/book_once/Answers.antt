@@ -47,10 +47,10 @@ returns g c =
     let b = c.args.booking in
     let start = begun c.args.groups c.args.columns found in
     let refusal = open_refusal F c.args.groups c.args.columns seeds found in
-    let before = open_state c.in-ok-sketch.sketch c.open.new.cells in
-    let answers = c.in-ok-sketch.ensures.opens.answers in
-    let posts = c.in-ok-post.ensures in
-    cells F seeds c.args.groups c.args.columns found b c.in-ok-sketch.ensures.law before _
+    let before = open_state c.in_ok-sketch.sketch c.open.new.cells in
+    let answers = c.in_ok-sketch.ensures.opens.answers in
+    let posts = c.in_ok-post.ensures in
+    cells F seeds c.args.groups c.args.columns found b c.in_ok-sketch.ensures.law before _
     (accepted refusal start before (sym answers))
     (said refusal start before answers)
     (accepted (post_refusal F seeds before b) tt tt (sym posts.answers))

@@ -1,7 +1,7 @@
 -- The worked figures hold: one test over the table, computed; and so does the sample. Assumes nothing.
 use Rattle.std.proofs.Common.{◌≡◌, Bool, true, false, ◌&&◌, eqb, List, [], ◌∷◌, ℤ, pos, negsuc, Ok, Err, Result, refl, ap}
 use lib.Count.{ones, ones_in}
-use Rattle.std.specs.List.{AllByRecursion as All}
+use Rattle.std.specs.List.{AllByRecursion}
 use Rattle.std.proofs.lemmas.Bool.{and_parts, eqb-true, false≢true}
 use Rattle.signs.specs.declared.faults.Fault.{Fault}
 use Rattle.signs.specs.Faults.{check_each}
@@ -43,7 +43,7 @@ abbrev all_right : List Figure → Bool
 all_right [] = true
 all_right (f ∷ fs) = right f && all_right fs
 
-all_true : (fs : List Figure) → all_right fs ≡ true → All Holds fs
+all_true : (fs : List Figure) → all_right fs ≡ true → AllByRecursion Holds fs
 all_true [] e = tt
 all_true (f ∷ fs) e =
     let p = and_parts (right f) (all_right fs) e in

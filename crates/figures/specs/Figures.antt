@@ -1,7 +1,7 @@
 -- Worked figures: what is asked, and what it gives. Assumes nothing.
 use Rattle.std.specs.Prelude.{◌≡◌, ℕ, ◌+◌, ◌-◌, ◌*◌, ◌%◌, ◌^◌, min, max, cond, List, [], ◌∷◌, ℤ, pos, negsuc, ◌+ℤ◌, ◌*ℤ◌, None, Ok, Result, nat_le}
 use Rattle.std.specs.Result.{result_map_both}
-use Rattle.std.specs.List.{AllByRecursion as All}
+use Rattle.std.specs.List.{AllByRecursion}
 use Rattle.signs.specs.declared.faults.Fault.{Fault}
 use Rattle.signs.specs.Family.{block_answer, interval_answer}
 use Rattle.signs.specs.Cover.{cover_sum}
@@ -107,7 +107,7 @@ pub record Holds (f : Figure) : Type 0 where
   pub rules : by_rules f.asked ≡ f.gives
 
 abbrev pub FiguresHold : Type 0
-FiguresHold = All Holds figures
+FiguresHold = AllByRecursion Holds figures
 
 -- The five calls that the program `estimate` makes, and what they leave.
 

@@ -2,7 +2,7 @@
 use Rattle.std.proofs.Common.{◌≡◌, ℕ, zero, suc, ◌*◌, ◌^◌, ◌<◌, List, [], ◌∷◌, length, get_or, ℤ, pos, ◌+ℤ◌, ◌*ℤ◌, sym, refl, ap, ◌∙◌, ap₂, pow-suc, arith}
 use native.Mathlib.Nat.{pow-zero}
 use lib.IntN.{zero-*ℤ}
-use Rattle.std.specs.List.{AllByRecursion as All}
+use Rattle.std.specs.List.{AllByRecursion}
 use Rattle.signs.specs.Sums.{sum}
 use Rattle.signs.specs.SumsLemmas.{sum_none, sum_ext}
 use Rattle.model.specs.Choices.{over_choices}
@@ -10,7 +10,7 @@ use Rattle.model.proofs.Ring.{*ℤ_assoc, +ℤ-*ℤ, *ℤ_pos_one, pos_one_*ℤ}
 use Rattle.model.proofs.Sums.{sum_same, sum-+, sum-*_left, sum_const, sum_first}
 
 -- only the lists of c numbers below M count
-pub choices_ext : (M c : ℕ) (f g : List ℕ → ℤ) → ((T : List ℕ) → length T ≡ c → All (λ s. s < M) T → f T ≡ g T) → over_choices M c f ≡ over_choices M c g
+pub choices_ext : (M c : ℕ) (f g : List ℕ → ℤ) → ((T : List ℕ) → length T ≡ c → AllByRecursion (λ s. s < M) T → f T ≡ g T) → over_choices M c f ≡ over_choices M c g
 unfolding over_choices
 choices_ext M zero f g h = h [] refl tt
 choices_ext M (suc c) f g h =

@@ -2,7 +2,7 @@
 use Rattle.std.proofs.Common.{◌≡◌, ℕ, suc, ◌+◌, ◌*◌, ◌<◌, ◌≤◌, List, ◌++◌, length, get_or, take, drop, ℤ, None, sym, ap, ◌∙◌, ap₂, mul-le-mul_right, arith}
 use Rattle.std.proofs.ByRecursion.{All-append, All-take, All-drop, All-get_or, All-from_get_or}
 use Rattle.std.proofs.lemmas.List.{length-append, length-take-le, length-drop, get_or_append_left, get_or-append-add}
-use Rattle.std.specs.List.{AllByRecursion as All}
+use Rattle.std.specs.List.{AllByRecursion}
 use Rattle.signs.specs.Family.{Meaning}
 use Rattle.model.specs.Calls.{open_refusal}
 use Rattle.model.specs.Law.{with_group}
@@ -38,7 +38,7 @@ module _ (F : Meaning) (seeds : List ℕ) {G C : ℕ} (opening : Opening F G C s
   pub chosen_there : (j : ℕ) → j < C → group * C + j < length chosen
   chosen_there j h = omega (arith, front, chosen_long, opening.long)
 
-  known_too : All (λ seed. seed < F.seeds) choice → (k : ℕ) → k < length chosen → get_or chosen k 0 < F.seeds
+  known_too : AllByRecursion (λ seed. seed < F.seeds) choice → (k : ℕ) → k < length chosen → get_or chosen k 0 < F.seeds
   known_too known k h =
       let P : ℕ → Type 0 = λ seed. seed < F.seeds in
       let all = All-from_get_or P seeds 0 opening.known in
@@ -46,7 +46,7 @@ module _ (F : Meaning) (seeds : List ℕ) {G C : ℕ} (opening : Opening F G C s
       (All-append P (take (group * C) seeds) (choice ++ drop (suc group * C) seeds) (All-take P (group * C) seeds all)
       (All-append P choice (drop (suc group * C) seeds) known (All-drop P (suc group * C) seeds all)))
 
-  pub opens_too : All (λ seed. seed < F.seeds) choice → OpensToo F seeds chosen
+  pub opens_too : AllByRecursion (λ seed. seed < F.seeds) choice → OpensToo F seeds chosen
   opens_too known groups columns found e =
       let o = open_passed F groups columns seeds found e in
       open_passes F groups columns chosen found (record {

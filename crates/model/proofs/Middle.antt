@@ -2,7 +2,7 @@
 use Rattle.std.proofs.Common.{◌≡◌, ℕ, suc, ◌+◌, ◌%◌, ◌<◌, ◌≤◌, Bool, true, false, cond, not, leb, ◌⊎◌, List, [], ◌∷◌, length, ℤ, pos, count_by, sym, refl, inl, inr, ⊎_elim, arith}
 use lib.Signed.{le_z}
 use Rattle.std.proofs.lemmas.Int.{ints}
-use Rattle.std.specs.List.{ContainsAt as Has, AllByRecursion as All}
+use Rattle.std.specs.List.{ContainsAt, AllByRecursion}
 use Rattle.std.proofs.lemmas.List.Sums.{sum_by-cons}
 use Rattle.std.proofs.ByRecursion.{all-has, All-weaker}
 use Rattle.std.proofs.lemmas.Bool.{leb-true, le-leb, both_ways, not-true, not_from_true, not_from_false, cases_Bool, cases_lt, and_parts, and_from}
@@ -32,38 +32,38 @@ module _ {A : Type 0} where
   count_not p [] = refl
   count_not p (x ∷ xs) = omega (arith, count_cons p x xs, count_cons (λ y. not (p y)) x xs, weigh_not (p x), count_not p xs)
 
-  pub count_implies : (p q : A → Bool) (xs : List A) → All (λ x. p x ≡ true → q x ≡ true) xs → count_by p xs ≤ count_by q xs
+  pub count_implies : (p q : A → Bool) (xs : List A) → AllByRecursion (λ x. p x ≡ true → q x ≡ true) xs → count_by p xs ≤ count_by q xs
   count_implies p q [] h = omega arith
   count_implies p q (x ∷ xs) h =
       omega (arith, count_cons p x xs, count_cons q x xs, weigh_implies (p x) (q x) h.0, count_implies p q xs h.1)
 
-  pub count_none : (p : A → Bool) (xs : List A) → All (λ x. p x ≡ false) xs → count_by p xs ≡ 0
+  pub count_none : (p : A → Bool) (xs : List A) → AllByRecursion (λ x. p x ≡ false) xs → count_by p xs ≡ 0
   count_none p [] h = refl
   count_none p (x ∷ xs) h = omega (arith, count_cons p x xs, weigh_no (p x) h.0, count_none p xs h.1)
 
 -- The least entry that passes a test.
 
 module _ {A : Type 0} where
-  has_here : (x : A) (xs : List A) → Has (x ∷ xs) x
+  has_here : (x : A) (xs : List A) → ContainsAt (x ∷ xs) x
   has_here x xs = (0, omega arith, λ d. refl)
 
-  has_there : (y : A) (xs : List A) (x : A) → Has xs x → Has (y ∷ xs) x
+  has_there : (y : A) (xs : List A) (x : A) → ContainsAt xs x → ContainsAt (y ∷ xs) x
   has_there y xs x h = (suc h.0, omega (arith, h.1), h.2)
 
   pub record Least (leq : A → A → Bool) (p : A → Bool) (xs : List A) : Type 0 where
     pub entry : A
-    pub has : Has xs entry
+    pub has : ContainsAt xs entry
     pub passes : p entry ≡ true
-    pub least : All (λ x. p x ≡ true → leq entry x ≡ true) xs
+    pub least : AllByRecursion (λ x. p x ≡ true → leq entry x ≡ true) xs
 
   self : (leq : A → A → Bool) → Order leq → (a : A) → leq a a ≡ true
   self leq O a = ⊎_elim (λ e. e) (λ e. e) (O.total a a)
 
-  pub least : (leq : A → A → Bool) → Order leq → (p : A → Bool) (xs : List A) → All (λ x. p x ≡ false) xs ⊎ Least leq p xs
+  pub least : (leq : A → A → Bool) → Order leq → (p : A → Bool) (xs : List A) → AllByRecursion (λ x. p x ≡ false) xs ⊎ Least leq p xs
   least leq O p [] = inl tt
   least leq O p (x ∷ xs) = by (p x) refl (least leq O p xs)
     where
-      by : (b : Bool) → p x ≡ b → All (λ x. p x ≡ false) xs ⊎ Least leq p xs → All (λ x. p x ≡ false) (x ∷ xs) ⊎ Least leq p (x ∷ xs)
+      by : (b : Bool) → p x ≡ b → AllByRecursion (λ x. p x ≡ false) xs ⊎ Least leq p xs → AllByRecursion (λ x. p x ≡ false) (x ∷ xs) ⊎ Least leq p (x ∷ xs)
       by false e (inl none) = inl (e, none)
       by false e (inr l) = inr (record {
         entry = l.entry;
@@ -98,7 +98,7 @@ turned O = record { total = λ a b. O.total b a; trans = λ a b c p q. O.trans c
 
 -- The middle exists.
 
-all_false : {A : Type 0} (xs : List A) → All (λ x. true ≡ false) xs → length xs ≡ 0
+all_false : {A : Type 0} (xs : List A) → AllByRecursion (λ x. true ≡ false) xs → length xs ≡ 0
 all_false [] h = refl
 all_false (x ∷ xs) h = absurd (both_ways true h.0 refl)
 
@@ -115,14 +115,14 @@ module _ {A : Type 0} (leq : A → A → Bool) (O : Order leq) (xs : List A) (od
   few_out t h = leb-true (greater leq xs t) (half xs) h
 
   -- the greatest entry has no greater one
-  some_few : All (λ x. few x ≡ false) xs → ⊥
+  some_few : AllByRecursion (λ x. few x ≡ false) xs → ⊥
   unfolding greater
   some_few none = ⊎_elim empty top (least (λ a b. leq b a) (turned O) (λ x. true) xs)
     where
-      empty : All (λ x. true ≡ false) xs → ⊥
+      empty : AllByRecursion (λ x. true ≡ false) xs → ⊥
       empty h = omega (arith, all_false xs h)
 
-      zero_greater : (t : A) → All (λ x. true ≡ true → leq x t ≡ true) xs → greater leq xs t ≤ half xs
+      zero_greater : (t : A) → AllByRecursion (λ x. true ≡ true → leq x t ≡ true) xs → greater leq xs t ≤ half xs
       zero_greater t h = omega (
         arith,
         count_none (λ x. not (leq x t)) xs
@@ -137,10 +137,10 @@ module _ {A : Type 0} (leq : A → A → Bool) (O : Order leq) (xs : List A) (od
   unfolding greater smaller half
   few_smaller l many = ⊎_elim empty next (least (λ a b. leq b a) (turned O) (λ x. not (leq l.entry x)) xs)
     where
-      empty : All (λ x. not (leq l.entry x) ≡ false) xs → ⊥
+      empty : AllByRecursion (λ x. not (leq l.entry x) ≡ false) xs → ⊥
       empty h = omega (arith, count_none (λ x. not (leq l.entry x)) xs h)
 
-      few_greater : (u : A) → All (λ x. not (leq l.entry x) ≡ true → leq x u ≡ true) xs → greater leq xs u ≤ half xs
+      few_greater : (u : A) → AllByRecursion (λ x. not (leq l.entry x) ≡ true → leq x u ≡ true) xs → greater leq xs u ≤ half xs
       few_greater u h = omega (
         arith,
         count_not (λ x. leq l.entry x) xs,
@@ -155,15 +155,15 @@ module _ {A : Type 0} (leq : A → A → Bool) (O : Order leq) (xs : List A) (od
       next m = both_ways (leq l.entry m.entry) (not-true (leq l.entry m.entry) m.passes)
           (all-has (λ x. few x ≡ true → leq l.entry x ≡ true) xs m.entry l.least m.has (few_in m.entry (few_greater m.entry m.least)))
 
-  pub middle_exists : (t : A) × Has xs t × Central leq xs t
+  pub middle_exists : (t : A) × ContainsAt xs t × Central leq xs t
   middle_exists = ⊎_elim (λ none. absurd (some_few none)) found (least leq O few xs)
     where
-      found : Least leq few xs → (t : A) × Has xs t × Central leq xs t
+      found : Least leq few xs → (t : A) × ContainsAt xs t × Central leq xs t
       found l = (l.entry, l.has, record { low = ⊎_elim (λ h. h) (λ h. absurd (few_smaller l h)) (cases_le (smaller leq xs l.entry) (half xs)); high = few_out l.entry l.passes })
 
 -- There is only one.
 
-all_of : {A : Type 0} (P : A → Type 0) → ((x : A) → P x) → (xs : List A) → All P xs
+all_of : {A : Type 0} (P : A → Type 0) → ((x : A) → P x) → (xs : List A) → AllByRecursion P xs
 all_of P h [] = tt
 all_of P h (x ∷ xs) = (h x, all_of P h xs)
 
@@ -188,13 +188,13 @@ module _ {A : Type 0} (leq : A → A → Bool) (O : Order leq) (xs : List A) (so
 -- The first that passes.
 
 module _ {A : Type 0} (p : A → Bool) (d : A) where
-  pub first_passes : (xs : List A) → All (λ x. p x ≡ false) xs ⊎ (Has xs (first_of p d xs) × (p (first_of p d xs) ≡ true))
+  pub first_passes : (xs : List A) → AllByRecursion (λ x. p x ≡ false) xs ⊎ (ContainsAt xs (first_of p d xs) × (p (first_of p d xs) ≡ true))
   unfolding first_of
   first_passes [] = inl tt
   first_passes (x ∷ xs) = by (p x) refl (first_passes xs)
     where
-      by : (b : Bool) → p x ≡ b → All (λ x. p x ≡ false) xs ⊎ (Has xs (first_of p d xs) × (p (first_of p d xs) ≡ true))
-          → All (λ x. p x ≡ false) (x ∷ xs) ⊎ (Has (x ∷ xs) (cond b x (first_of p d xs)) × (p (cond b x (first_of p d xs)) ≡ true))
+      by : (b : Bool) → p x ≡ b → AllByRecursion (λ x. p x ≡ false) xs ⊎ (ContainsAt xs (first_of p d xs) × (p (first_of p d xs) ≡ true))
+          → AllByRecursion (λ x. p x ≡ false) (x ∷ xs) ⊎ (ContainsAt (x ∷ xs) (cond b x (first_of p d xs)) × (p (cond b x (first_of p d xs)) ≡ true))
       by true e r = inr (has_here x xs, e)
       by false e (inl none) = inl (e, none)
       by false e (inr h) = inr (has_there x xs (first_of p d xs) h.0, h.1)
@@ -211,11 +211,11 @@ module _ {A : Type 0} (leq : A → A → Bool) (xs : List A) where
       record { low = leb-true _ _ h.0; high = leb-true _ _ h.1 }
 
 module _ {A : Type 0} (leq : A → A → Bool) (O : Order leq) (d : A) (xs : List A) (odd : length xs % 2 ≡ 1) where
-  pub middle_is : Has xs (middle_by leq d xs) × Central leq xs (middle_by leq d xs)
+  pub middle_is : ContainsAt xs (middle_by leq d xs) × Central leq xs (middle_by leq d xs)
   unfolding middle_by
   middle_is = ⊎_elim none (λ h. (h.0, central_out leq xs _ h.1)) (first_passes (central leq xs) d xs)
     where
-      none : All (λ x. central leq xs x ≡ false) xs → Has xs (first_of (central leq xs) d xs) × Central leq xs (first_of (central leq xs) d xs)
+      none : AllByRecursion (λ x. central leq xs x ≡ false) xs → ContainsAt xs (first_of (central leq xs) d xs) × Central leq xs (first_of (central leq xs) d xs)
       none h =
           let m = middle_exists leq O xs odd in
           absurd (both_ways (central leq xs m.0) (all-has (λ x. central leq xs x ≡ false) xs m.0 h m.1) (central_in leq xs m.0 m.2))

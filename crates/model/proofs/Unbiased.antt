@@ -4,7 +4,7 @@ use mathlib.Core.Path.{fun_ext}
 use Rattle.std.proofs.lemmas.List.FromFn.{length-map-range_with_len, get_or-map-range_with_len}
 use Rattle.std.proofs.lemmas.List.{get_or-map}
 use Rattle.std.proofs.lemmas.Bool.Decides.{nat_tests}
-use Rattle.std.specs.List.{AllByRecursion as All}
+use Rattle.std.specs.List.{AllByRecursion}
 use Rattle.signs.specs.declared.faults.Reason.TheVariants.{Table}
 use Rattle.signs.specs.Faults.{Refusal, accepts, ◌⨾◌, answer, unless, number_of, sketch_fault}
 use Rattle.signs.specs.Sums.{sum}
@@ -157,7 +157,7 @@ module _ (F : Meaning) (lawful : Lawful F) (seeds : List ℕ) (r s : Run) (ok : 
   C = columns_of r
 
   -- under a choice
-  module _ (choice : List ℕ) (each : length choice ≡ C) (known : All (λ seed. seed < F.seeds) choice) where
+  module _ (choice : List ℕ) (each : length choice ≡ C) (known : AllByRecursion (λ seed. seed < F.seeds) choice) where
     abbrev there : List ℕ
     there = with_group seeds C group choice
 

@@ -5,7 +5,7 @@
 -- Standing.antt says what the calls, their arguments and their acceptance alone tell. `SketchLaw`, at the end, is the law: `Faithful` of one
 -- run, and `Unbiased` of two runs and a group.
 use Rattle.std.specs.Prelude.{◌≡◌, ℕ, suc, ◌*◌, ◌^◌, ◌<◌, ◌⊎◌, List, ◌++◌, map, length, take, drop, ℤ, pos, ◌*ℤ◌, Some, Ok, slice_index_or}
-use Rattle.std.specs.List.{AllByRecursion as All}
+use Rattle.std.specs.List.{AllByRecursion}
 use Rattle.signs.specs.declared.faults.Fault.{Fault}
 use Rattle.signs.specs.declared.faults.Reason.TheVariants.{Table, ForeignCells}
 use Rattle.signs.specs.Faults.{Refusal}
@@ -50,7 +50,7 @@ pub record Faithful (F : Meaning) (seeds : List ℕ) (r : Run) : Type 0 where
 
 -- a choice: a seed of the family for each column
 abbrev pub Choice : Meaning → ℕ → List ℕ → Type 0
-Choice F columns choice = (length choice ≡ columns) × All (λ seed. seed < F.seeds) choice
+Choice F columns choice = (length choice ≡ columns) × AllByRecursion (λ seed. seed < F.seeds) choice
 
 -- the table of seeds with one group's as chosen, and the other groups' as they were
 abbrev pub with_group : List ℕ → ℕ → ℕ → List ℕ → List ℕ

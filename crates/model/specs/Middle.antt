@@ -1,6 +1,6 @@
 -- The middle of an odd number of entries, under any total order that is given as a test. Assumes nothing.
 use Rattle.std.specs.Prelude.{◌≡◌, ℕ, ◌-◌, ◌/◌, ◌≤◌, Bool, true, cond, not, ◌&&◌, ◌⊎◌, List, [], ◌∷◌, length, ℤ, pos, count_by, int_le, nat_le}
-use Rattle.std.specs.List.{ContainsAt as Has}
+use Rattle.std.specs.List.{ContainsAt}
 
 -- any two entries compare, and the order is transitive
 pub record Order {A : Type 0} (leq : A → A → Bool) : Type 0 where
@@ -43,6 +43,6 @@ middle_of xs = middle_by int_le (pos 0) xs
 
 -- m is the middle: one of the entries and central, and no other number is
 pub record Middle (xs : List ℤ) (m : ℤ) : Type 0 where
-  pub among : Has xs m
+  pub among : ContainsAt xs m
   pub central : Central int_le xs m
   pub only : (x : ℤ) → Central int_le xs x → x ≡ m

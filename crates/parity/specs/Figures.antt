@@ -1,6 +1,6 @@
 -- Worked figures: what is asked, and what it gives. Assumes nothing.
 use Rattle.std.specs.Prelude.{◌≡◌, ℕ, ◌+◌, ◌-◌, ◌*◌, ◌%◌, ◌^◌, cond, List, [], ◌∷◌, ℤ, pos, negsuc, ◌+ℤ◌, Ok, Result, nat_le}
-use Rattle.std.specs.List.{AllByRecursion as All}
+use Rattle.std.specs.List.{AllByRecursion}
 use Rattle.signs.specs.declared.faults.Fault.{Fault}
 use Rattle.signs.specs.Family.{block_answer, interval_answer}
 use Rattle.signs.specs.Cover.{cover_sum}
@@ -68,4 +68,4 @@ pub record Holds (f : Figure) : Type 0 where
   pub rules : by_rules f.asked ≡ f.gives
 
 abbrev pub FiguresHold : Type 0
-FiguresHold = All Holds figures
+FiguresHold = AllByRecursion Holds figures

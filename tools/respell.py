@@ -3,7 +3,7 @@
 
 usage: python3 tools/respell.py        at the top of the repository, once, right after the kit's own script
 
-Words are in snake case, types in camel case: `familyFault` becomes `family_fault`, `sum-ext` becomes `sum_ext`. A dash stays where it joins an
+A second run changes nothing. Words are in snake case, types in camel case: `familyFault` becomes `family_fault`, `sum-ext` becomes `sum_ext`. A dash stays where it joins an
 operator, or a fact to what it is shown of. Names that Rattle makes from the code (in Answers and Invariants, and behind a dot) are left alone,
 and so are names that a file takes from another library. It prints what it renamed, and stops without a change where names would fall together.
 """
@@ -49,6 +49,8 @@ IMPORT = re.compile(r"\buse ([^\s{;]+)\.\{([^}]*)\}")
 def spelled(name):
     if name in EXCEPTIONS:
         return EXCEPTIONS[name]
+    if name in EXCEPTIONS.values():
+        return name
     if re.match(r"[A-Z]", name):
         return name
     words = re.sub(r"(?<=[a-z0-9])([A-Z])", lambda m: "_" + m.group(1).lower(), name)
@@ -112,6 +114,9 @@ def ghost_lines(text, turn):
 
 
 def main():
+    if sys.argv[1:]:
+        print(__doc__)
+        return 2
     crates = own_crates()
     names = declared() | {n: set() for n in LOCAL}
     table = {n: spelled(n) for n in names if spelled(n) != n}

@@ -109,7 +109,7 @@ pub record Holds (f : Figure) : Type 0 where
 abbrev pub FiguresHold : Type 0
 FiguresHold = AllByRecursion Holds figures
 
--- The five calls that the program `estimate` makes, and what they leave.
+-- The five calls that the program `sketch_sample` makes, and what they leave.
 
 abbrev pub sample_seeds : List ℕ
 sample_seeds = 3 ∷ (10 ∷ [])

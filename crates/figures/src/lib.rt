@@ -6,7 +6,7 @@ ghost use Rattle.std.specs.Prelude.{◌≡◌, length};
 ghost use Rattle.figures.specs.Figures.{figures, FiguresHold, SampleHolds};
 
 /// How many worked figures the specification has. All of them hold, by the definitions and by the closed rules; and the five calls that the
-/// program `estimate` makes leave what it prints.
+/// program `sketch_sample` makes leave what it prints.
 pub fn worked_figures() -> usize
     ensures count { result ≡ length figures }
     ensures hold { FiguresHold }

@@ -1,6 +1,6 @@
 -- An odd number of entries has a middle, and only one. Assumes nothing.
 use Rattle.std.proofs.Common.{◌≡◌, ℕ, suc, ◌+◌, ◌%◌, ◌<◌, ◌≤◌, Bool, true, false, cond, not, leb, ◌⊎◌, List, [], ◌∷◌, length, ℤ, pos, count_by, sym, refl, inl, inr, ⊎_elim, arith}
-use lib.Signed.{le_z}
+use Rattle.std.specs.Prelude.{int_le}
 use Rattle.std.proofs.lemmas.Int.{ints}
 use Rattle.std.specs.List.{ContainsAt, AllByRecursion}
 use Rattle.std.proofs.lemmas.List.Sums.{sum_by-cons}
@@ -222,21 +222,21 @@ module _ {A : Type 0} (leq : A → A → Bool) (O : Order leq) (d : A) (xs : Lis
 
 -- At the integers.
 
-int_le_order : Order le_z
+int_le_order : Order int_le
 int_le_order = record {
-  total = λ a b. ⊎_elim inl (λ (e : le_z a b ≡ false). inr (sym (omega (arith, ints)))) (cases_Bool (le_z a b));
+  total = λ a b. ⊎_elim inl (λ (e : int_le a b ≡ false). inr (sym (omega (arith, ints)))) (cases_Bool (int_le a b));
   trans = λ a b c p q. sym (omega (arith, ints));
 }
 
-int_le_antisym : (a b : ℤ) → le_z a b ≡ true → le_z b a ≡ true → a ≡ b
+int_le_antisym : (a b : ℤ) → int_le a b ≡ true → int_le b a ≡ true → a ≡ b
 int_le_antisym a b p q = omega (arith, ints)
 
 pub middle_of_lem : (xs : List ℤ) → length xs % 2 ≡ 1 → Middle xs (middle_of xs)
 middle_of_lem xs odd =
-    let m = middle_is le_z int_le_order (pos 0) xs odd in
+    let m = middle_is int_le int_le_order (pos 0) xs odd in
     let some : 0 < length xs = omega arith in
     record {
       among = m.0;
       central = m.1;
-      only = λ x c. int_le_antisym x (middle_of xs) (middle_le le_z int_le_order xs some x (middle_of xs) c m.1) (middle_le le_z int_le_order xs some (middle_of xs) x m.1 c);
+      only = λ x c. int_le_antisym x (middle_of xs) (middle_le int_le int_le_order xs some x (middle_of xs) c m.1) (middle_le int_le int_le_order xs some (middle_of xs) x m.1 c);
     }

@@ -1,6 +1,6 @@
 -- Loops that count and search, for the middle of a list. Assumes nothing.
 use Rattle.std.proofs.Common.{◌≡◌, ℕ, ◌+◌, ◌-◌, ◌/◌, ◌<◌, ◌≤◌, Bool, true, false, cond, not, List, length, get_or, take, drop, ℤ, pos, ◌<ℤ◌, count_by, sym, ap, ◌∙◌, subst₂, arith}
-use lib.Signed.{le_z}
+use Rattle.std.specs.Prelude.{int_le}
 use Rattle.std.proofs.lemmas.List.{at_drop_more, at_drop_all}
 use Rattle.std.proofs.lemmas.Int.{ints}
 use Rattle.std.proofs.lemmas.List.Sums.{count_by_more_yes, count_by_more_no}
@@ -9,10 +9,10 @@ use Rattle.model.specs.Middle.{half, smaller, greater, central, first_of}
 
 -- an entry x beside the pivot p: whether it is smaller, and whether it is greater
 
-pub when_less : (x p : ℤ) → x <ℤ p → (not (le_z p x) ≡ true) × (not (le_z x p) ≡ false)
+pub when_less : (x p : ℤ) → x <ℤ p → (not (int_le p x) ≡ true) × (not (int_le x p) ≡ false)
 when_less x p h = (grind (arith, ints), grind (arith, ints))
 
-pub when_equal : (x p : ℤ) → x ≡ p → (not (le_z p x) ≡ false) × (not (le_z x p) ≡ false)
+pub when_equal : (x p : ℤ) → x ≡ p → (not (int_le p x) ≡ false) × (not (int_le x p) ≡ false)
 when_equal x p e = (grind (arith, ints), grind (arith, ints))
 
 -- n of the entries below i pass the test
@@ -43,14 +43,14 @@ module _ (p : ℤ → Bool) (xs : List ℤ) (i : ℕ) (so_far : first_of p (pos 
 
 -- the test for the middle, by the two counts
 module _ (xs : List ℤ) (t : ℤ) (h : ℕ) (halved : h ≡ (length xs - 1) / 2) where
-  pub central_yes : (m n : ℕ) → m ≡ smaller le_z xs t → n ≡ greater le_z xs t → m ≤ h → n ≤ h → central le_z xs t ≡ true
+  pub central_yes : (m n : ℕ) → m ≡ smaller int_le xs t → n ≡ greater int_le xs t → m ≤ h → n ≤ h → central int_le xs t ≡ true
   unfolding central half
-  central_yes m n e f p q = and_from _ _ (le-leb (smaller le_z xs t) ((length xs - 1) / 2) (subst₂ ◌≤◌ e halved p)) (le-leb (greater le_z xs t) ((length xs - 1) / 2) (subst₂ ◌≤◌ f halved q))
+  central_yes m n e f p q = and_from _ _ (le-leb (smaller int_le xs t) ((length xs - 1) / 2) (subst₂ ◌≤◌ e halved p)) (le-leb (greater int_le xs t) ((length xs - 1) / 2) (subst₂ ◌≤◌ f halved q))
 
-  pub central_low : (m : ℕ) → m ≡ smaller le_z xs t → h < m → central le_z xs t ≡ false
+  pub central_low : (m : ℕ) → m ≡ smaller int_le xs t → h < m → central int_le xs t ≡ false
   unfolding central half
-  central_low m e p = and_left _ _ (lt-leb (smaller le_z xs t) ((length xs - 1) / 2) (subst₂ ◌<◌ halved e p))
+  central_low m e p = and_left _ _ (lt-leb (smaller int_le xs t) ((length xs - 1) / 2) (subst₂ ◌<◌ halved e p))
 
-  pub central_high : (n : ℕ) → n ≡ greater le_z xs t → h < n → central le_z xs t ≡ false
+  pub central_high : (n : ℕ) → n ≡ greater int_le xs t → h < n → central int_le xs t ≡ false
   unfolding central half
-  central_high n e p = and_right _ _ (lt-leb (greater le_z xs t) ((length xs - 1) / 2) (subst₂ ◌<◌ halved e p))
+  central_high n e p = and_right _ _ (lt-leb (greater int_le xs t) ((length xs - 1) / 2) (subst₂ ◌<◌ halved e p))

@@ -3,7 +3,7 @@
 
 #![tactic(auto)]
 
-ghost use Rattle.std.specs.Prelude.{◌≡◌, ◌+◌, ◌-◌, ◌*◌, ◌%◌, ◌^◌, ◌≤◌, T, unsigned_abs};
+ghost use Rattle.std.specs.Prelude.{◌≡◌, ◌+◌, ◌-◌, ◌*◌, ◌%◌, ◌^◌, ◌≤◌, IsTrue, unsigned_abs};
 
 use signs::Fault;
 
@@ -47,7 +47,7 @@ pub struct HeldSketch {
 
 impl Drop for HeldSketch {
     fn drop(self)
-        requires { T self.spent }
+        requires { IsTrue self.spent }
     {
         let HeldSketch {
             figures: _,

@@ -44,6 +44,26 @@ fn middles(rt: HostRuntime) -> Result<(), Fail> {
     Ok(())
 }
 
+// Of two sketches, one with slots 0 to 5 at weight 1, the other with slots 0 to 3 at weight -2: at seed 0 all signs are plus, at seed 2 those of
+// odd slots are minus, at seed 4 those of slots 2, 3, 6 and 7.
+#[test]
+fn two_sketches(rt: HostRuntime) -> Result<(), Fail> {
+    let mut cells = [0; 3];
+    let mut others = [0; 3];
+    let mut totals = [5; 3];
+    let first = three_cells(3, 1, &[0, 2, 4], &mut cells)?;
+    let family = Bch3::new(3)?;
+    let mut sketch = OpenSketch::open(&family, 3, 1, &[0, 2, 4], &mut others)?;
+    sketch.post(&family, &[0, 2, 4], &mut others, booking(0, 4, -2))?;
+    let second = sketch.figures();
+    let estimate = overlap(&first, &cells, &second, &others, &mut totals)?;
+    assert_eq!(rt; totals[0], -48);
+    assert_eq!(rt; totals[1], 0);
+    assert_eq!(rt; totals[2], 0);
+    assert_eq!(rt; estimate.middle, 0);
+    Ok(())
+}
+
 #[test]
 fn refused_overlaps(rt: HostRuntime) -> Result<(), Fail> {
     let mut cells = [0; 3];

@@ -4,7 +4,7 @@ use Rattle.std.proofs.Common.{sym, ap, ◌∙◌, inl, inr, add-zero, mod-eq_of_
 use Rattle.std.proofs.lemmas.Nat.{mul-add-lt, mul-le}
 use Rattle.std.proofs.lemmas.Bool.{cases_order, false≢true}
 use Rattle.std.proofs.lemmas.Bool.Decides.{nat_tests}
-use Rattle.signs.specs.declared.faults.Reason.TheVariants.{Unbalanced}
+use Rattle.signs.specs.declared.reason.Reason.TheVariants.{Unbalanced}
 use Rattle.signs.specs.declared.family.Sign.{Sign}
 use Rattle.signs.specs.declared.family.Sign.TheVariants.{Plus, Minus}
 use Rattle.signs.specs.Faults.{Refusal, ◌⨾◌, answer, family_fault}

@@ -1,6 +1,6 @@
 -- The listed family: its signs stand in a table, a row for each seed and a byte for each slot, 0 for plus and 1 for minus. Assumes nothing.
 use Rattle.std.specs.Prelude.{ℕ, ◌+◌, ◌*◌, ◌^◌, cond, not, ◌&&◌, ◌||◌, List, length, ◌==◌, nat_lt, slice_index}
-use Rattle.signs.specs.declared.faults.Reason.TheVariants.{Rows, SignByte, Unbalanced}
+use Rattle.signs.specs.declared.reason.Reason.TheVariants.{Rows, SignByte, Unbalanced}
 use Rattle.signs.specs.declared.family.Sign.{Sign}
 use Rattle.signs.specs.declared.family.Sign.TheVariants.{Plus, Minus}
 use Rattle.signs.specs.Faults.{Refusal, refuse_if, ◌⨾◌, check_each, family_fault}

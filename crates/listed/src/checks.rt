@@ -1,6 +1,6 @@
 ghost use Rattle.std.specs.Prelude.{◌≡◌, ◌+◌, ◌*◌, ◌^◌, ◌<◌, ◌≤◌, length};
 ghost use Rattle.std.specs.Option.{option_map};
-ghost use Rattle.signs.specs.declared.faults.Reason.TheVariants.{Unbalanced};
+ghost use Rattle.signs.specs.declared.reason.Reason.TheVariants.{Unbalanced};
 ghost use Rattle.signs.specs.Faults.{answer, family_fault};
 ghost use Rattle.signs.specs.Family.{alike, agreeing};
 ghost use Rattle.listed.specs.Listed.{byte_sign, listed, bytes_check, columns_check, listed_refusal};

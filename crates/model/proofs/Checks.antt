@@ -3,7 +3,7 @@ use Rattle.std.proofs.Common.{◌≡◌, ℕ, ◌+◌, ◌*◌, ◌%◌, ◌^◌
 use Rattle.std.proofs.lemmas.Bool.Decides.{nat_tests}
 use Rattle.std.proofs.lemmas.Bool.{leb-false, ltb-false, lt-leb, le-ltb}
 use Rattle.signs.specs.declared.faults.Fault.{Fault}
-use Rattle.signs.specs.declared.faults.Reason.TheVariants.{Seed, ForeignCells, Full}
+use Rattle.signs.specs.declared.reason.Reason.TheVariants.{Seed, ForeignCells, Full}
 use Rattle.signs.specs.Faults.{Refusal, refuse_if, ◌⨾◌, family_fault, sketch_fault}
 use Rattle.signs.specs.Family.{Meaning, interval_check}
 use Rattle.signs.proofs.Answers.{first_none, then_none, Interval, interval_there}

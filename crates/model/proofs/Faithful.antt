@@ -2,7 +2,7 @@
 use Rattle.std.proofs.Common.{◌≡◌, ℕ, ◌+◌, ◌*◌, Bool, true, false, cond, List, pos, ◌-ℤ◌, is_some, Some, None, Option, sym, refl, ap, subst, inl, inr, arith}
 use Rattle.std.proofs.lemmas.Bool.{true≢false, false≢true}
 use Rattle.signs.specs.declared.faults.Fault.{Fault}
-use Rattle.signs.specs.declared.faults.Reason.TheVariants.{Interval, Shape, Weight, Full}
+use Rattle.signs.specs.declared.reason.Reason.TheVariants.{Interval, Shape, Weight, Full}
 use Rattle.signs.specs.Faults.{Refusal, accepts, refuse_if, ◌⨾◌, number_of, family_fault, sketch_fault}
 use Rattle.signs.specs.Family.{Meaning, interval_check}
 use Rattle.model.specs.declared.Booking.{Booking}

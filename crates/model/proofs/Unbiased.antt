@@ -5,7 +5,7 @@ use Rattle.std.proofs.lemmas.List.FromFn.{length-map-range_with_len, get_or-map-
 use Rattle.std.proofs.lemmas.List.{get_or-map}
 use Rattle.std.proofs.lemmas.Bool.Decides.{nat_tests}
 use Rattle.std.specs.List.{AllByRecursion}
-use Rattle.signs.specs.declared.faults.Reason.TheVariants.{Table}
+use Rattle.signs.specs.declared.reason.Reason.TheVariants.{Table}
 use Rattle.signs.specs.Faults.{Refusal, accepts, ◌⨾◌, answer, unless, number_of, sketch_fault}
 use Rattle.signs.specs.Sums.{sum}
 use Rattle.signs.specs.Family.{Meaning, Lawful}

@@ -1,6 +1,6 @@
 -- What each call of a sketch refuses, and what it makes of the sketch and its cells. Assumes nothing.
 use Rattle.std.specs.Prelude.{ℕ, ◌+◌, ◌-◌, ◌*◌, ◌%◌, ◌^◌, not, ◌||◌, List, [], ◌∷◌, map, length, replicate, ℤ, pos, ◌+ℤ◌, ◌*ℤ◌, neg_ℤ, Some, None, Option, ◌==◌, nat_le, nat_lt, slice_index, slice_index_or, unsigned_abs}
-use Rattle.signs.specs.declared.faults.Reason.TheVariants.{Seed, Shape, Table, ForeignCells, Weight, Full}
+use Rattle.signs.specs.declared.reason.Reason.TheVariants.{Seed, Shape, Table, ForeignCells, Weight, Full}
 use Rattle.signs.specs.Faults.{Refusal, refuse_if, ◌⨾◌, check_each, family_fault, sketch_fault}
 use Rattle.signs.specs.Family.{Meaning, interval_sum, interval_check}
 use Rattle.model.specs.declared.Booking.{Booking}

@@ -7,7 +7,7 @@
 use Rattle.std.specs.Prelude.{◌≡◌, ℕ, suc, ◌*◌, ◌^◌, ◌<◌, ◌⊎◌, List, ◌++◌, map, length, take, drop, ℤ, pos, ◌*ℤ◌, Some, Ok, slice_index_or}
 use Rattle.std.specs.List.{AllByRecursion}
 use Rattle.signs.specs.declared.faults.Fault.{Fault}
-use Rattle.signs.specs.declared.faults.Reason.TheVariants.{Table, ForeignCells}
+use Rattle.signs.specs.declared.reason.Reason.TheVariants.{Table, ForeignCells}
 use Rattle.signs.specs.Faults.{Refusal}
 use Rattle.signs.specs.Family.{Meaning}
 use Rattle.model.specs.Calls.{Tally, State, own_table, other_table, totals_table, length_check}

@@ -3,7 +3,7 @@
 use Rattle.std.specs.Prelude.{ℕ, zero, suc, ◌+◌, ◌-◌, ◌*◌, ◌/◌, ◌%◌, ◌^◌, cond, ℤ, pos, ◌+ℤ◌, ◌*ℤ◌, ◌==◌, bit_and, count_ones}
 use Rattle.signs.specs.declared.family.Sign.{Sign}
 use Rattle.signs.specs.declared.family.Sign.TheVariants.{Plus, Minus}
-use Rattle.signs.specs.declared.faults.Reason.TheVariants.{Width}
+use Rattle.signs.specs.declared.reason.Reason.TheVariants.{Width}
 use Rattle.signs.specs.Faults.{Refusal, refuse_if, ◌⨾◌, family_fault}
 use Rattle.signs.specs.Family.{Meaning, value, width_check}
 

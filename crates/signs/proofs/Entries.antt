@@ -1,8 +1,11 @@
 -- Checks of one entry after another, by a loop's turns. Assumes nothing.
-use Rattle.std.proofs.Common.{◌≡◌, ℕ, zero, suc, ◌+◌, ◌<◌, ◌⊎◌, Some, None, sym, refl, ap, ◌∙◌, inl, inr, add-one, arith}
-use Rattle.std.proofs.lemmas.Bool.{cases_eq}
+use Rattle.std.proofs.Common.{◌≡◌, ℕ, zero, suc, ◌+◌, ◌<◌, ◌≤◌, Bool, false, ltb, ◌⊎◌, List, length, get_or, Some, None, Option, option_map, sym, refl, ap, ◌∙◌, inl, inr, add-one, arith}
+use Rattle.std.specs.List.{position, position_or_len}
+use Rattle.std.proofs.lemmas.Bool.{cases_eq, cases_lt, lt-ltb, cond-true}
+use Rattle.std.proofs.lemmas.List.Quantifiers.{position-Some}
+use Rattle.std.proofs.lemmas.List.Sums.{fails_before_first}
 use Rattle.signs.specs.declared.faults.Fault.{Fault}
-use Rattle.signs.specs.Faults.{Refusal, ◌⨾◌, check_each}
+use Rattle.signs.specs.Faults.{Refusal, refuse_if, ◌⨾◌, check_each}
 use Rattle.signs.proofs.Answers.{first_none, then_none}
 
 pub each_none : (check : ℕ → Refusal) → check_each 0 check ≡ None
@@ -38,3 +41,23 @@ each_at (suc n) check e k l = pick (cases_eq k n) (each_at n check (first_none (
     pick : (k ≡ n) ⊎ (k ≡ n → ⊥) → ((k : ℕ) → k < n → check k ≡ None) → check k ≡ None
     pick (inl q) rest = ap check q ∙ then_none (check_each n check) (check n) e
     pick (inr q) rest = rest k (omega arith)
+
+-- where a search for the first bad entry finds one, that is the first that does not pass
+pub each_position : {A : Type 0} (bad : A → Bool) (xs : List A) (d : A) (check : ℕ → Refusal) (fault : ℕ → Fault) (found : Option ℕ) → found ≡ position bad xs
+    → ((k : ℕ) → k < length xs → check k ≡ refuse_if (bad (get_or xs k d)) (fault k)) → check_each (length xs) check ≡ option_map fault found
+each_position bad xs d check fault (Some i) e is =
+    let at = position-Some bad xs i d (sym e) in
+    each_hit (length xs) i check (fault i) at.0
+    (each_all i check (λ k l. is k (omega (arith, at.0)) ∙ ap (λ b. refuse_if b (fault k)) (at.2 k l)))
+    (is i at.0 ∙ ap (λ b. refuse_if b (fault i)) at.1)
+each_position bad xs d check fault None e is = each_all (length xs) check (λ k l. is k l ∙ ap (λ b. refuse_if b (fault k)) (none k l))
+  where
+    past : length xs ≤ position_or_len bad xs
+    past = pick (cases_lt (position_or_len bad xs) (length xs))
+      where
+        pick : (position_or_len bad xs < length xs) ⊎ (length xs ≤ position_or_len bad xs) → length xs ≤ position_or_len bad xs
+        pick (inl l) = let some : None ≡ Some (position_or_len bad xs) = e ∙ cond-true (ltb (position_or_len bad xs) (length xs)) _ _ (lt-ltb (position_or_len bad xs) (length xs) l) in let z : ◌≡◌ {A = ℕ} 0 1 = cc in absurd (let w : ⊥ = omega arith in w)
+        pick (inr h) = h
+
+    none : (k : ℕ) → k < length xs → bad (get_or xs k d) ≡ false
+    none k l = fails_before_first bad xs k d (omega (arith, past))

@@ -3,7 +3,7 @@ use Rattle.std.specs.Prelude.{◌≡◌, ℕ, ◌+◌, ◌-◌, ◌*◌, ◌^◌
 use Rattle.signs.specs.declared.family.Sign.{Sign}
 use Rattle.signs.specs.declared.family.Sign.TheVariants.{Plus, Minus}
 use Rattle.signs.specs.declared.faults.Fault.{Fault}
-use Rattle.signs.specs.declared.faults.Reason.TheVariants.{Width, Seed, Slot, Block, Interval}
+use Rattle.signs.specs.declared.reason.Reason.TheVariants.{Width, Seed, Slot, Block, Interval}
 use Rattle.signs.specs.Faults.{Refusal, refuse_if, ◌⨾◌, answer, family_fault}
 use Rattle.signs.specs.Sums.{sum, count}
 

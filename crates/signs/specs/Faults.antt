@@ -1,10 +1,10 @@
 -- Faults, and how the checks of a call follow one another. Assumes nothing.
-use Rattle.std.specs.Prelude.{ℕ, zero, suc, Bool, true, false, Some, None, Ok, Err, Option, Result}
+use Rattle.std.specs.Prelude.{ℕ, zero, suc, Bool, true, false, List, ◌∷◌, ◌++◌, Some, None, Ok, Err, Option, Result, codes, decimal}
 use Rattle.signs.specs.declared.faults.Fault.{Fault}
 use Rattle.signs.specs.declared.faults.Layer.{Layer}
 use Rattle.signs.specs.declared.faults.Layer.TheVariants as layer
-use Rattle.signs.specs.declared.faults.Reason.{Reason}
-use Rattle.signs.specs.declared.faults.Reason.TheVariants as reason
+use Rattle.signs.specs.declared.reason.Reason.{Reason}
+use Rattle.signs.specs.declared.reason.Reason.TheVariants as reason
 
 abbrev pub number_of : Reason → ℕ
 number_of reason.Width = 1
@@ -35,11 +35,18 @@ letter_of layer.Sketch = 83
 letter_of layer.List = 76
 letter_of layer.StoredFile = 68
 
+abbrev pub fault_of : Layer → Reason → ℕ → Fault
+fault_of who why at = record { reason = why; layer = who; place = at }
+
 abbrev pub family_fault : Reason → ℕ → Fault
-family_fault why at = record { reason = why; layer = layer.Family; place = at }
+family_fault = fault_of layer.Family
 
 abbrev pub sketch_fault : Reason → ℕ → Fault
-sketch_fault why at = record { reason = why; layer = layer.Sketch; place = at }
+sketch_fault = fault_of layer.Sketch
+
+-- a fault in print, as `refused 5 F 0`
+abbrev pub text_of : Fault → List ℕ
+text_of f = codes "refused " ++ decimal (number_of f.reason) ++ codes " " ++ letter_of f.layer ∷ codes " " ++ decimal f.place
 
 -- A refusal is a fault, or None where the call is accepted.
 abbrev pub Refusal : Type 0

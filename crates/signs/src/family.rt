@@ -1,5 +1,5 @@
 ghost use Rattle.std.specs.Prelude.{◌≡◌};
-ghost use Rattle.signs.specs.Family.{Meaning, Lawful, sign_answer, block_answer};
+ghost use Rattle.signs.specs.Family.{Meaning, Lawful, value, sign_answer, block_answer};
 
 use crate::faults::Fault;
 
@@ -8,6 +8,24 @@ use crate::faults::Fault;
 pub enum Sign {
     Plus,
     Minus,
+}
+
+impl From<Sign> for i64 {
+    ghost from_gives = { λ sign n. n ≡ value sign };
+
+    fn from(sign: Sign) -> i64 {
+        match sign {
+            Sign::Plus => 1,
+            Sign::Minus => -1,
+        }
+    }
+}
+
+/// An aligned block of 2^level slots: those from number × 2^level up to but not including (number + 1) × 2^level.
+#[derive(Clone, Copy, PartialEq, Eq, Debug)]
+pub struct Block {
+    pub level: u32,
+    pub number: u32,
 }
 
 /// A family of signs: slots are numbered from 0 up to but not including 2^width, seeds from 0 up to but not including the seed count, and
@@ -30,9 +48,9 @@ pub trait SignFamily {
     fn sign(&self, seed: u64, slot: u32) -> Result<Sign, Fault>
         ensures { result ≡ sign_answer (meaning self.now) seed slot };
 
-    /// The sum of the signs of the slots of a block: those from number × 2^level up to but not including (number + 1) × 2^level.
-    fn block_sum(&self, seed: u64, level: u32, number: u32) -> Result<i64, Fault>
-        ensures { result ≡ block_answer (meaning self.now) seed level number };
+    /// The sum of the signs of the slots of a block.
+    fn block_sum(&self, seed: u64, block: Block) -> Result<i64, Fault>
+        ensures { result ≡ block_answer (meaning self.now) seed block.level block.number };
 
     ghost lawful: { (f : Self) → Lawful (meaning f) };
 }

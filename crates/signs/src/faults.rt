@@ -1,45 +1,9 @@
-ghost use Rattle.std.specs.Prelude.{◌≡◌, ◌==◌, ◌↔◌, IsTrue};
-ghost use Rattle.signs.specs.Faults.{number_of, letter_of, family_fault, sketch_fault};
-ghost use Rattle.std.specs.Cmp.Rules.{comparing};
-ghost use Rattle.std.proofs.Common.{rules};
+ghost use Rattle.std.specs.Prelude.{◌≡◌, Some};
+ghost use Rattle.signs.specs.Faults.{number_of, letter_of, fault_of, text_of};
 
-/// What was wrong: a word for each refusal of the part, under its number.
-#[derive(Clone, Copy, Eq, Debug)]
-pub enum Reason {
-    Width = 1,
-    Rows = 2,
-    SignByte = 3,
-    Unbalanced = 4,
-    Seed = 5,
-    Slot = 6,
-    Block = 7,
-    Interval = 8,
-    Shape = 9,
-    Table = 10,
-    ForeignCells = 11,
-    Weight = 12,
-    Full = 13,
-    Layout = 14,
-    Field = 15,
-    OptionOpen = 16,
-    NoOption = 17,
-    Card = 18,
-    Figures = 19,
-    Output = 20,
-}
-
-impl PartialEq for Reason {
-    ghost eq = { λ x y. number_of x == number_of y };
-
-    ghost laws = { Prim.search (comparing, rules) };
-
-    fn eq(&self, other: &Reason) -> bool
-        ensures value { result ≡ (number_of self.now == number_of other.now) }
-        ensures same { IsTrue result ↔ (self.now ≡ other.now) }
-    {
-        *self as u8 == *other as u8
-    }
-}
+use crate::reason::Reason;
+use std::error::Error;
+use std::fmt;
 
 /// The layer that refused.
 #[derive(Clone, Copy, PartialEq, Eq, Debug)]
@@ -48,6 +12,32 @@ pub enum Layer {
     Sketch,
     List,
     StoredFile,
+}
+
+impl Layer {
+    /// A refusal of this layer.
+    pub fn fault(self, reason: Reason, place: u64) -> Fault
+        ensures { result ≡ fault_of self reason place }
+    {
+        Fault {
+            reason,
+            layer: self,
+            place,
+        }
+    }
+}
+
+impl From<Layer> for char {
+    ghost from_gives = { λ layer letter. letter ≡ letter_of layer };
+
+    fn from(layer: Layer) -> char {
+        match layer {
+            Layer::Family => 'F',
+            Layer::Sketch => 'S',
+            Layer::List => 'L',
+            Layer::StoredFile => 'D',
+        }
+    }
 }
 
 /// Why a call was refused. The place is 0 unless the refusal's rule gives one.
@@ -59,44 +49,31 @@ pub struct Fault {
 }
 
 impl Fault {
-    /// A refusal of a sign family.
-    pub fn of_family(reason: Reason, place: u64) -> Fault
-        ensures { result ≡ family_fault reason place }
-    {
-        Fault {
-            reason,
-            layer: Layer::Family,
-            place,
-        }
-    }
-
-    /// A refusal of a sketch.
-    pub fn of_sketch(reason: Reason, place: u64) -> Fault
-        ensures { result ≡ sketch_fault reason place }
-    {
-        Fault {
-            reason,
-            layer: Layer::Sketch,
-            place,
-        }
-    }
-
     /// The refusal's number, 1 to 20.
     pub fn number(self) -> u8
         ensures { result ≡ number_of self.reason }
     {
-        self.reason as u8
+        u8::from(self.reason)
     }
 
     /// The layer's letter.
     pub fn letter(self) -> char
         ensures { result ≡ letter_of self.layer }
     {
-        match self.layer {
-            Layer::Family => 'F',
-            Layer::Sketch => 'S',
-            Layer::List => 'L',
-            Layer::StoredFile => 'D',
-        }
+        char::from(self.layer)
     }
 }
+
+/// `refused`, the number, the letter and the place, with a space between.
+impl fmt::Display for Fault {
+    ghost output = { λ fault. Some (text_of fault) };
+
+    fn fmt<W: fmt::Write>(&self, f: &mut fmt::Formatter<W>) -> fmt::Result {
+        let number = self.number();
+        let letter = self.letter();
+        let place = self.place;
+        write!(f, "refused {number} {letter} {place}")
+    }
+}
+
+impl Error for Fault {}

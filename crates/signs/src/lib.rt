@@ -7,9 +7,11 @@ mod family;
 mod faults;
 mod intervals;
 mod offsets;
+mod reason;
 
 pub use checks::{check_block, check_interval, check_seed, check_slot};
-pub use family::{Sign, SignFamily};
-pub use faults::{Fault, Layer, Reason};
+pub use family::{Block, Sign, SignFamily};
+pub use faults::{Fault, Layer};
 pub use intervals::interval_sum;
 pub use offsets::Offset;
+pub use reason::Reason;

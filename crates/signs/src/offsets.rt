@@ -5,7 +5,7 @@ ghost use Rattle.signs.specs.Offset.{shifted};
 ghost use Rattle.signs.specs.Shifts.{shifted-Lawful};
 
 use crate::checks::{check_block, check_seed, check_slot};
-use crate::family::{Sign, SignFamily};
+use crate::family::{Block, Sign, SignFamily};
 use crate::faults::Fault;
 use crate::intervals::interval_sum;
 
@@ -52,10 +52,10 @@ fn sum_round<F: SignFamily>(
     let slots = 1 << width;
     let end = start + size;
     if end <= slots {
-        return interval_sum(family, seed, start, end);
+        return interval_sum(family, seed, start..end);
     }
-    let front = interval_sum(family, seed, start, slots)?;
-    let back = interval_sum(family, seed, 0, end - slots)?;
+    let front = interval_sum(family, seed, start..slots)?;
+    let back = interval_sum(family, seed, 0..end - slots)?;
     Ok(front + back)
 }
 
@@ -79,11 +79,11 @@ impl<F: SignFamily> SignFamily for Offset<F> {
         self.below.sign(seed, moved(slot, self.offset, width))
     }
 
-    fn block_sum(&self, seed: u64, level: u32, number: u32) -> Result<i64, Fault> {
+    fn block_sum(&self, seed: u64, block: Block) -> Result<i64, Fault> {
         check_seed(self.below.seed_count(), seed)?;
         let width = self.below.width();
-        check_block(width, level, number)?;
-        let start = moved(number << level, self.offset, width);
-        sum_round(&self.below, width, seed, start, 1 << level)
+        check_block(width, block)?;
+        let start = moved(block.number << block.level, self.offset, width);
+        sum_round(&self.below, width, seed, start, 1 << block.level)
     }
 }

@@ -2,7 +2,7 @@ use Rattle.std.proofs.Common.{◌+◌, ◌<◌, ◌≤◌, length, get_or, pos, 
 use Rattle.std.proofs.lemmas.Int.{to_z-of_z}
 use Rattle.std.proofs.lemmas.Bool.{lt-ltb, le-ltb}
 use Rattle.signs.specs.declared.faults.Fault.{Fault}
-use Rattle.signs.specs.declared.faults.Reason.TheVariants.{ForeignCells}
+use Rattle.signs.specs.declared.reason.Reason.TheVariants.{ForeignCells}
 use Rattle.signs.specs.Faults.{Refusal, refuse_if, answer, sketch_fault}
 use Rattle.signs.proofs.Entries.{each_none, each_more, each_hit}
 use Rattle.model.specs.Calls.{cell_check_at}

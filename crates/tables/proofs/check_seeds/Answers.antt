@@ -1,7 +1,7 @@
 use Rattle.std.proofs.Common.{◌<◌, ◌≤◌, length, get_or, Err, Result, sym, ap, ◌∙◌, arith}
 use Rattle.std.proofs.lemmas.Bool.{le-leb, lt-leb}
 use Rattle.signs.specs.declared.faults.Fault.{Fault}
-use Rattle.signs.specs.declared.faults.Reason.TheVariants.{Seed}
+use Rattle.signs.specs.declared.reason.Reason.TheVariants.{Seed}
 use Rattle.signs.specs.Faults.{Refusal, refuse_if, answer, family_fault}
 use Rattle.signs.proofs.Entries.{each_none, each_more, each_hit}
 use Rattle.model.specs.Calls.{seed_check_at}

@@ -1,7 +1,7 @@
 use Rattle.std.proofs.Common.{◌≡◌, length, get_or, Err, Result, sym, ap, ◌∙◌, arith}
 use Rattle.std.proofs.lemmas.Bool.{lt-ltb, le-ltb}
 use Rattle.signs.specs.declared.faults.Fault.{Fault}
-use Rattle.signs.specs.declared.faults.Reason.TheVariants.{SignByte}
+use Rattle.signs.specs.declared.reason.Reason.TheVariants.{SignByte}
 use Rattle.signs.specs.Faults.{Refusal, refuse_if, check_each, answer, family_fault}
 use Rattle.signs.proofs.Entries.{each_none, each_more, each_hit}
 use Rattle.listed.specs.Listed.{byte_check}

@@ -1,6 +1,6 @@
 use Rattle.std.proofs.Common.{◌≡◌, ◌+◌, ◌*◌, ◌%◌, ◌^◌, sym, ap, ◌∙◌, arith}
 use Rattle.std.proofs.lemmas.Nat.{one_shl}
-use Rattle.signs.specs.declared.faults.Reason.TheVariants.{Unbalanced}
+use Rattle.signs.specs.declared.reason.Reason.TheVariants.{Unbalanced}
 use Rattle.signs.specs.Faults.{check_each, family_fault}
 use Rattle.signs.specs.Family.{agreeing}
 use Rattle.signs.proofs.Entries.{each_none, each_more, each_all, each_hit}

@@ -11,13 +11,13 @@ use Rattle.signs.proofs.intervals.sum_of_blocks.Goals as goal
 pub loop-block-init : goal.loop-block-init
 loop-block-init g c =
     let F = g.F.SignFamily.meaning c.args.family.now in
-    let a = c.args.a in
+    let a = c.args.slots.start in
     let none : 0 ≡ a - a = omega arith in
     let all : 2 * F.width ≡ 2 * F.width - 0 = omega arith in (
       omega arith,
       omega arith,
       sym (sum_none (λ k. value (F.sign c.args.seed (a + k)))) ∙ ap (sign_sum F c.args.seed a) none,
-      subst (λ k. Enough F.width k a c.args.b) all (enough_start F.width a c.args.b),
+      subst (λ k. Enough F.width k a c.args.slots.end) all (enough_start F.width a c.args.slots.end),
     )
 
 pub returns-in_err-sum : goal.returns-in_err-sum
@@ -29,9 +29,9 @@ returns-in_err-sum g c =
 
 -- what a turn adds, and that it is small
 record Turn (g : given.Over) (c : goal.In_ok-sum g) : Type 0 where
-  slots : c.args.b ≤ 2 ^ (g.F.SignFamily.meaning c.args.family.now).width
+  slots : c.args.slots.end ≤ 2 ^ (g.F.SignFamily.meaning c.args.family.now).width
   few : 2 ^ (g.F.SignFamily.meaning c.args.family.now).width ≤ 2 ^ 24
-  was : c.loop-block.sum ≡ sign_sum (g.F.SignFamily.meaning c.args.family.now) c.args.seed c.args.a (c.loop-block.at - c.args.a)
+  was : c.loop-block.sum ≡ sign_sum (g.F.SignFamily.meaning c.args.family.now) c.args.seed c.args.slots.start (c.loop-block.at - c.args.slots.start)
   adds : c.in_ok-sum.field-0 ≡ sign_sum (g.F.SignFamily.meaning c.args.family.now) c.args.seed c.loop-block.at (2 ^ c.level_at-level.result)
   small : nat_abs c.loop-block.sum + nat_abs c.in_ok-sum.field-0 ≤ 2 ^ 24
 
@@ -41,7 +41,7 @@ turn g c =
     let L = g.met.F.SignFamily.lawful c.args.family.now in
     let s = c.args.seed in
     let j = c.level_at-level.result in
-    let a = c.args.a in
+    let a = c.args.slots.start in
     let at = c.loop-block.at in
     let slots : 2 ^ c.args.width ≡ 2 ^ F.width = ap (λ x. 2 ^ x) c.requires.width in
     let few = few_slots F L in
@@ -62,7 +62,7 @@ loop-block-preserved g c =
     let F = g.F.SignFamily.meaning c.args.family.now in
     let t = turn g c in
     let j = c.level_at-level.result in
-    let a = c.args.a in
+    let a = c.args.slots.start in
     let at = c.loop-block.at in
     let size : 1 * 2 ^ j % 4294967296 ≡ 2 ^ j = one_shl j 32 c.level_at-level.ensures.small in
     let low : a ≤ at = c.loop-block.invariant.0 in
@@ -73,12 +73,12 @@ loop-block-preserved g c =
     let small = t.small in
     let bits = c.loop-block.sum-is in
     let one : 2 * F.width - c.loop-block._block ≡ suc (2 * F.width - (c.loop-block._block + 1)) = omega arith in
-    let left : Enough F.width (2 * F.width - (c.loop-block._block + 1)) (at + 2 ^ j) c.args.b =
-    enough_next F.width (2 * F.width - (c.loop-block._block + 1)) at c.args.b j t.slots
+    let left : Enough F.width (2 * F.width - (c.loop-block._block + 1)) (at + 2 ^ j) c.args.slots.end =
+    enough_next F.width (2 * F.width - (c.loop-block._block + 1)) at c.args.slots.end j t.slots
     (record { starts = c.level_at-level.ensures.starts; fits = c.level_at-level.ensures.fits; largest = c.level_at-level.ensures.largest })
-    (subst (λ k. Enough F.width k at c.args.b) one c.loop-block.invariant.3) in (
+    (subst (λ k. Enough F.width k at c.args.slots.end) one c.loop-block.invariant.3) in (
       omega arith,
       omega (arith, c.level_at-level.ensures.fits),
       omega (arith, ints),
-      subst (λ x. Enough F.width (2 * F.width - (c.loop-block._block + 1)) (at + x) c.args.b) (sym size) left,
+      subst (λ x. Enough F.width (2 * F.width - (c.loop-block._block + 1)) (at + x) c.args.slots.end) (sym size) left,
     )

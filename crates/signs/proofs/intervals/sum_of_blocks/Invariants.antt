@@ -7,4 +7,4 @@ use Rattle.signs.proofs.intervals.sum_of_blocks.Given as goal
 abbrev pub invariant-loop-block : goal.invariant-loop-block
 invariant-loop-block g l =
     let F = g.F.SignFamily.meaning l.family in
-    (l.a ≤ l.at) × (l.at ≤ l.b) × (l.sum ≡ sign_sum F l.seed l.a (l.at - l.a)) × Enough F.width (2 * F.width - l._block) l.at l.b
+    (l.slots.start ≤ l.at) × (l.at ≤ l.slots.end) × (l.sum ≡ sign_sum F l.seed l.slots.start (l.at - l.slots.start)) × Enough F.width (2 * F.width - l._block) l.at l.slots.end

@@ -13,7 +13,7 @@ sum_round-requires g c =
     let n : 2 ^ c.width-width.result ≡ 2 ^ F.width = ap (λ x. 2 ^ x) c.width-width.ensures in
     let size = a.shift.size in
     let run = a.shift.run in
-    record { width = c.width-width.ensures; seed = a.seed; start = c.moved-start.ensures.there; size = (omega (arith, pow_pos c.args.level), omega arith) }
+    record { width = c.width-width.ensures; seed = a.seed; start = c.moved-start.ensures.there; size = (omega (arith, pow_pos c.args.block.level), omega arith) }
 
 pub returns : goal.returns
 returns g c =
@@ -22,8 +22,8 @@ returns g c =
     let L = g.met.F.SignFamily.lawful f.below in
     let a = asked F.width F.seeds _ _ _ _ _ _ _ L.narrow c.width-width.ensures c.seed_count.ensures c.in_ok-check_seed.ensures c.in_ok-check_block.ensures in
     let s = c.args.seed in
-    let j = c.args.level in
-    let q = c.args.number in
+    let j = c.args.block.level in
+    let q = c.args.block.number in
     let v : ℕ → ℤ = λ i. value (F.sign s i) in
     let start : c.moved-start.result ≡ (q * 2 ^ j + f.offset) % 2 ^ c.width-width.result =
     c.moved-start.ensures.is ∙ ap (λ x. (x + f.offset) % 2 ^ c.width-width.result) a.shift.first in

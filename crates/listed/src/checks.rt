@@ -5,7 +5,7 @@ ghost use Rattle.signs.specs.Faults.{answer, family_fault};
 ghost use Rattle.signs.specs.Family.{alike, agreeing};
 ghost use Rattle.listed.specs.Listed.{byte_sign, listed, bytes_check, columns_check, listed_refusal};
 
-use signs::{Fault, Reason};
+use signs::{Fault, Layer, Reason};
 
 // Refuses the first byte that is neither 0 nor 1 (3).
 fn check_bytes(table: &[u8]) -> Result<(), Fault>
@@ -13,7 +13,7 @@ fn check_bytes(table: &[u8]) -> Result<(), Fault>
 {
     for (k, byte) in table.iter().enumerate() {
         if *byte > 1 {
-            return Err(Fault::of_family(Reason::SignByte, k as u64));
+            return Err(Layer::Family.fault(Reason::SignByte, k as u64));
         }
     }
     Ok(())
@@ -72,14 +72,14 @@ pub(crate) fn check_table(width: u32, rows: u32, table: &[u8]) -> Result<(), Fau
     ensures { result ≡ answer (listed_refusal width rows table.now) tt }
 {
     if width < 1 || width > 6 {
-        return Err(Fault::of_family(Reason::Width, 0));
+        return Err(Layer::Family.fault(Reason::Width, 0));
     }
     if rows < 2 || rows > 128 || table.len() != (rows as usize) << width {
-        return Err(Fault::of_family(Reason::Rows, 0));
+        return Err(Layer::Family.fault(Reason::Rows, 0));
     }
     check_bytes(table)?;
     if let Some((a, b)) = first_unbalanced(table, width, rows) {
-        return Err(Fault::of_family(Reason::Unbalanced, u64::from(a) * 64 + u64::from(b)));
+        return Err(Layer::Family.fault(Reason::Unbalanced, u64::from(a) * 64 + u64::from(b)));
     }
     Ok(())
 }

@@ -8,7 +8,7 @@ ghost use Rattle.std.proofs.Common.{arith};
 ghost use Rattle.listed.specs.Cells.{listed-Lawful};
 
 use crate::checks::check_table;
-use signs::{Fault, Sign, SignFamily, check_block, check_seed, check_slot};
+use signs::{Block, Fault, Sign, SignFamily, check_block, check_seed, check_slot};
 
 /// A family of width 1 to 6 whose signs stand in a table of 2 to 128 rows, a row for each seed, with a byte for each slot: 0 for plus, 1 for
 /// minus. That no two columns are unbalanced is the half law.
@@ -82,10 +82,10 @@ impl SignFamily for Listed {
         Ok(sign_at(&self.table, ((seed as u32) << self.width) + slot))
     }
 
-    fn block_sum(&self, seed: u64, level: u32, number: u32) -> Result<i64, Fault> {
+    fn block_sum(&self, seed: u64, block: Block) -> Result<i64, Fault> {
         check_seed(self.seed_count(), seed)?;
-        check_block(self.width, level, number)?;
-        let first = ((seed as u32) << self.width) + (number << level);
-        Ok(run_sum(&self.table, first, 1 << level))
+        check_block(self.width, block)?;
+        let first = ((seed as u32) << self.width) + (block.number << block.level);
+        Ok(run_sum(&self.table, first, 1 << block.level))
     }
 }

@@ -7,7 +7,7 @@ ghost use Rattle.std.proofs.Common.{arith};
 ghost use Rattle.parity.specs.Half.{bch3-Lawful};
 
 use crate::bits::{bch3_ones, sign_by, signed};
-use signs::{Fault, Reason, Sign, SignFamily, check_block, check_seed, check_slot};
+use signs::{Block, Fault, Layer, Reason, Sign, SignFamily, check_block, check_seed, check_slot};
 
 /// BCH3, of width 1 to 24, with 2^(width + 1) seeds. Plus where the seed's lowest bit and the bits that its others share with the slot hold an
 /// even number of ones together.
@@ -23,22 +23,25 @@ impl Bch3 {
         ensures { result_map_both (λ f. bch3 f.width) (λ e. e) result ≡ answer (width_check 1 24 width) (bch3 width) }
     {
         if width < 1 || width > 24 {
-            return Err(Fault::of_family(Reason::Width, 0));
+            return Err(Layer::Family.fault(Reason::Width, 0));
         }
         Ok(Bch3 { width })
     }
 }
 
 // The closed rule: 0 where 2^level does not divide the seed without its lowest bit, else 2^level times the first slot's sign.
-fn closed_sum(seed: u64, level: u32, number: u32) -> i64
-    requires level { level < 32 }
-    requires number { number * 2 ^ level < 2 ^ 32 }
-    ensures { result ≡ bch3_block_sum seed level number }
+fn closed_sum(seed: u64, block: Block) -> i64
+    requires level { block.level < 32 }
+    requires number { block.number * 2 ^ block.level < 2 ^ 32 }
+    ensures { result ≡ bch3_block_sum seed block.level block.number }
 {
-    if (seed / 2).trailing_zeros() < level {
+    if (seed / 2).trailing_zeros() < block.level {
         return 0;
     }
-    signed(1 << level, sign_by(bch3_ones(seed, number << level)))
+    signed(
+        1 << block.level,
+        sign_by(bch3_ones(seed, block.number << block.level)),
+    )
 }
 
 impl SignFamily for Bch3 {
@@ -60,12 +63,12 @@ impl SignFamily for Bch3 {
         Ok(sign_by(bch3_ones(seed, slot)))
     }
 
-    fn block_sum(&self, seed: u64, level: u32, number: u32) -> Result<i64, Fault>
-        ensures is { result ≡ block_answer (bch3 self.now.width) seed level number }
-        ensures closed { result ≡ answer (block_refusal (bch3 self.now.width) seed level number) (bch3_block_sum seed level number) }
+    fn block_sum(&self, seed: u64, block: Block) -> Result<i64, Fault>
+        ensures is { result ≡ block_answer (bch3 self.now.width) seed block.level block.number }
+        ensures closed { result ≡ answer (block_refusal (bch3 self.now.width) seed block.level block.number) (bch3_block_sum seed block.level block.number) }
     {
         check_seed(self.seed_count(), seed)?;
-        check_block(self.width, level, number)?;
-        Ok(closed_sum(seed, level, number))
+        check_block(self.width, block)?;
+        Ok(closed_sum(seed, block))
     }
 }

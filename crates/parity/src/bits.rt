@@ -27,8 +27,5 @@ pub(crate) fn sign_by(ones: u32) -> Sign
 pub(crate) fn signed(size: u32, sign: Sign) -> i64
     ensures { result ≡ pos size *ℤ value sign }
 {
-    match sign {
-        Sign::Plus => i64::from(size),
-        Sign::Minus => -i64::from(size),
-    }
+    i64::from(size) * i64::from(sign)
 }

@@ -7,7 +7,7 @@ ghost use Rattle.std.proofs.Common.{arith};
 ghost use Rattle.parity.specs.Half.{eh3-Lawful};
 
 use crate::bits::{bch3_ones, sign_by, signed};
-use signs::{Fault, Reason, Sign, SignFamily, check_block, check_seed, check_slot};
+use signs::{Block, Fault, Layer, Reason, Sign, SignFamily, check_block, check_seed, check_slot};
 
 /// EH3, of even width 2 to 24, with BCH3's seeds. It turns BCH3's sign once for each pair of the slot's bits, 2k and 2k + 1, that holds a one.
 #[derive(Clone, Copy)]
@@ -23,7 +23,7 @@ impl Eh3 {
         ensures { result_map_both (λ f. eh3 f.width) (λ e. e) result ≡ answer (eh3_width_check width) (eh3 width) }
     {
         if width < 2 || width > 24 || width % 2 != 0 {
-            return Err(Fault::of_family(Reason::Width, 0));
+            return Err(Layer::Family.fault(Reason::Width, 0));
         }
         Ok(Eh3 { width })
     }
@@ -69,14 +69,15 @@ fn even_sum(seed: u64, half: u32, number: u32) -> i64
 }
 
 // The closed rule: at an even level `even_sum`, and at an odd one the sum of the two blocks of the level below.
-fn closed_sum(seed: u64, level: u32, number: u32) -> i64
+fn closed_sum(seed: u64, block: Block) -> i64
     requires seed { seed < 2 ^ 25 }
-    requires level { level ≤ 24 }
-    requires block { number * 2 ^ level + 2 ^ level ≤ 2 ^ 24 }
-    ensures { result ≡ eh3_block_sum 32 seed level number }
+    requires level { block.level ≤ 24 }
+    requires block { block.number * 2 ^ block.level + 2 ^ block.level ≤ 2 ^ 24 }
+    ensures { result ≡ eh3_block_sum 32 seed block.level block.number }
 {
-    let half = level / 2;
-    if level % 2 == 0 {
+    let half = block.level / 2;
+    let number = block.number;
+    if block.level % 2 == 0 {
         return even_sum(seed, half, number);
     }
     even_sum(seed, half, 2 * number) + even_sum(seed, half, 2 * number + 1)
@@ -101,12 +102,12 @@ impl SignFamily for Eh3 {
         Ok(sign_by(eh3_ones(seed, slot)))
     }
 
-    fn block_sum(&self, seed: u64, level: u32, number: u32) -> Result<i64, Fault>
-        ensures is { result ≡ block_answer (eh3 self.now.width) seed level number }
-        ensures closed { result ≡ answer (block_refusal (eh3 self.now.width) seed level number) (eh3_block_sum self.now.width seed level number) }
+    fn block_sum(&self, seed: u64, block: Block) -> Result<i64, Fault>
+        ensures is { result ≡ block_answer (eh3 self.now.width) seed block.level block.number }
+        ensures closed { result ≡ answer (block_refusal (eh3 self.now.width) seed block.level block.number) (eh3_block_sum self.now.width seed block.level block.number) }
     {
         check_seed(self.seed_count(), seed)?;
-        check_block(self.width, level, number)?;
-        Ok(closed_sum(seed, level, number))
+        check_block(self.width, block)?;
+        Ok(closed_sum(seed, block))
     }
 }

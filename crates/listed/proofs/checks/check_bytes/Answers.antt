@@ -21,7 +21,7 @@ returns-then-byte-gt1 c =
     let t = c.args.table.now in
     let k = c.loop-k.k in
     let bad = ap (λ b. refuse_if b (family_fault SignByte k)) (lt-ltb 1 (get_or t k 0) c.if-byte-gt1.true) in
-    ap refuse c.of_family.ensures ∙ sym (ap answered (each_hit (length t) k (byte_check t) (family_fault SignByte k) c.loop-k-test.true c.loop-k.invariant bad))
+    ap refuse c.fault.ensures ∙ sym (ap answered (each_hit (length t) k (byte_check t) (family_fault SignByte k) c.loop-k-test.true c.loop-k.invariant bad))
 
 pub loop-k-preserved : goal.loop-k-preserved
 loop-k-preserved c =

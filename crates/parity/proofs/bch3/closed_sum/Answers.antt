@@ -7,19 +7,19 @@ use Rattle.signs.proofs.Powers.{trailing_divides, divides_trailing}
 use Rattle.parity.specs.Parity.{sign_by, bch3_sign}
 use Rattle.parity.proofs.bch3.closed_sum.Goals as goal
 
-pub returns-then-seed-level : goal.returns-then-seed-level
-returns-then-seed-level c =
+pub returns-then-seed-block : goal.returns-then-seed-block
+returns-then-seed-block c =
     let a = c.args.seed / 2 in
-    let j = c.args.level in
+    let j = c.args.block.level in
     let not : a % 2 ^ j ≡ 0 → ⊥ = λ e. let l = divides_trailing 64 a j (omega arith) e in omega arith in
     sym (cond-false (eqb (a % 2 ^ j) 0) _ _ (ne_eqb (a % 2 ^ j) 0 not))
 
 pub returns : goal.returns
 returns c =
     let s = c.args.seed in
-    let j = c.args.level in
-    let q = c.args.number in
-    let e = trailing_divides 64 (s / 2) j c.if-seed-level.false in
+    let j = c.args.block.level in
+    let q = c.args.block.number in
+    let e = trailing_divides 64 (s / 2) j c.if-seed-block.false in
     let size : 1 * 2 ^ j % 4294967296 ≡ 2 ^ j = one_shl j 32 c.requires.level in
     let first : q * 2 ^ j % 4294967296 ≡ q * 2 ^ j = mod-eq_of_lt c.requires.number in
     let fits : SFits w64 c.signed.result = record { sfits = c.signed.type_inv } in

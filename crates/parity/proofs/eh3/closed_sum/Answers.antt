@@ -4,8 +4,8 @@ use Rattle.parity.proofs.eh3.closed_sum.Goals as goal
 
 pub even_sum-requires : goal.even_sum-requires
 even_sum-requires c =
-    let j = c.args.level in
-    let e : c.args.number * 4 ^ (j / 2) ≡ c.args.number * 2 ^ j = ap (λ x. c.args.number * x) (even_level j (omega arith)) in
+    let j = c.args.block.level in
+    let e : c.args.block.number * 4 ^ (j / 2) ≡ c.args.block.number * 2 ^ j = ap (λ x. c.args.block.number * x) (even_level j (omega arith)) in
     record { seed = omega arith; half = omega arith; number = omega (arith, pow_pos j) }
 
 -- the two halves of a block of an odd level lie in it
@@ -23,16 +23,16 @@ halves q j odd h =
     record { number = omega arith; first = omega arith; second = omega arith }
 
 pub overflow_mul-number : goal.overflow_mul-number
-overflow_mul-number c = let h = halves c.args.number c.args.level (omega arith) c.requires.block in let n = h.number in record { fits = omega arith }
+overflow_mul-number c = let h = halves c.args.block.number c.args.block.level (omega arith) c.requires.block in let n = h.number in record { fits = omega arith }
 
 pub even_sum-requires-2 : goal.even_sum-requires-2
-even_sum-requires-2 c = let h = halves c.args.number c.args.level (omega arith) c.requires.block in record { seed = omega arith; half = omega arith; number = h.first }
+even_sum-requires-2 c = let h = halves c.args.block.number c.args.block.level (omega arith) c.requires.block in record { seed = omega arith; half = omega arith; number = h.first }
 
 pub overflow_mul-number-2 : goal.overflow_mul-number-2
-overflow_mul-number-2 c = let h = halves c.args.number c.args.level (omega arith) c.requires.block in let n = h.number in record { fits = omega arith }
+overflow_mul-number-2 c = let h = halves c.args.block.number c.args.block.level (omega arith) c.requires.block in let n = h.number in record { fits = omega arith }
 
 pub overflow_add-number : goal.overflow_add-number
-overflow_add-number c = let h = halves c.args.number c.args.level (omega arith) c.requires.block in let n = h.number in record { fits = omega arith }
+overflow_add-number c = let h = halves c.args.block.number c.args.block.level (omega arith) c.requires.block in let n = h.number in record { fits = omega arith }
 
 pub even_sum-requires-3 : goal.even_sum-requires-3
-even_sum-requires-3 c = let h = halves c.args.number c.args.level (omega arith) c.requires.block in record { seed = omega arith; half = omega arith; number = h.second }
+even_sum-requires-3 c = let h = halves c.args.block.number c.args.block.level (omega arith) c.requires.block in record { seed = omega arith; half = omega arith; number = h.second }

@@ -20,8 +20,8 @@ returns c =
     let n = c.args.self.now.width in
     let even = c.args.self.now.even in
     let s = c.args.seed in
-    let j = c.args.level in
-    let q = c.args.number in
+    let j = c.args.block.level in
+    let q = c.args.block.number in
     let a = asked n (2 ^ (n + 1)) _ _ _ _ _ _ _ (omega arith) refl c.seed_count.ensures c.in_ok-check_seed.ensures c.in_ok-check_block.ensures in
     let rule = c.closed_sum.ensures ∙ rule_32 n s j q even (omega arith) a.shift.run in
     let r = ruled (eh3 n) s j q c.closed_sum.result (eh3_block_sum n s j q) a.seed a.block (record { sfits = c.closed_sum.type_inv }) rule (eh3_rule n s j q even a.block.level) in

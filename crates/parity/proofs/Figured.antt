@@ -30,23 +30,25 @@ answer_true : (r : Result ℤ Fault) (z : ℤ) → same_answer r z ≡ true → 
 answer_true (Ok x) z e = ap ok (int_true x z e)
 answer_true (Err f) z e = absurd (false≢true e)
 
-abbrev right : Figure → Bool
-right f = same_answer (by_signs f.asked) f.gives && same_int (by_rules f.asked) f.gives
+-- one test over a table of questions of any kind
+module _ {Q : Type 0} (by_signs : Q → Result ℤ Fault) (by_rules : Q → ℤ) where
+  abbrev right : Figure Q → Bool
+  right f = same_answer (by_signs f.asked) f.gives && same_int (by_rules f.asked) f.gives
 
-abbrev all_right : List Figure → Bool
-all_right [] = true
-all_right (f ∷ fs) = right f && all_right fs
+  abbrev pub all_right : List (Figure Q) → Bool
+  all_right [] = true
+  all_right (f ∷ fs) = right f && all_right fs
 
-all_true : (fs : List Figure) → all_right fs ≡ true → AllByRecursion Holds fs
-all_true [] e = tt
-all_true (f ∷ fs) e =
-    let p = and_parts (right f) (all_right fs) e in
-    let q = and_parts (same_answer (by_signs f.asked) f.gives) (same_int (by_rules f.asked) f.gives) p.0 in
-    (record { signs = answer_true (by_signs f.asked) f.gives q.0; rules = int_true (by_rules f.asked) f.gives q.1 }, all_true fs p.1)
+  pub all_true : (fs : List (Figure Q)) → all_right fs ≡ true → AllByRecursion (Holds by_signs by_rules) fs
+  all_true [] e = tt
+  all_true (f ∷ fs) e =
+      let p = and_parts (right f) (all_right fs) e in
+      let q = and_parts (same_answer (by_signs f.asked) f.gives) (same_int (by_rules f.asked) f.gives) p.0 in
+      (record { signs = answer_true (by_signs f.asked) f.gives q.0; rules = int_true (by_rules f.asked) f.gives q.1 }, all_true fs p.1)
 
-computed : all_right figures ≡ true
+computed : all_right by_signs by_rules figures ≡ true
 unfolding sum pairs level_at cover_sum ones ones_in
 computed = refl
 
 pub figures_hold : FiguresHold
-figures_hold = all_true figures computed
+figures_hold = all_true by_signs by_rules figures computed

@@ -16,15 +16,21 @@ pub data Asked : Type 0 where
   -- width, offset, seed, level and number
   offset_block : ℕ → ℕ → ℕ → ℕ → ℕ → Asked
 
-pub record Figure : Type 0 where
-  pub asked : Asked
+-- a question of some kind, and what it gives
+pub record Figure (Q : Type 0) : Type 0 where
+  pub asked : Q
   pub gives : ℤ
 
-abbrev figure : Asked → ℤ → Figure
-figure a z = record { asked = a; gives = z }
+abbrev pub figure : {Q : Type 0} → Q → ℤ → Figure Q
+figure q z = record { asked = q; gives = z }
+
+-- it gives that by the sums of the signs, and by the closed rules
+pub record Holds {Q : Type 0} (by_signs : Q → Result ℤ Fault) (by_rules : Q → ℤ) (f : Figure Q) : Type 0 where
+  pub signs : by_signs f.asked ≡ Ok f.gives
+  pub rules : by_rules f.asked ≡ f.gives
 
 -- `negsuc n` is -(n + 1)
-abbrev pub figures : List Figure
+abbrev pub figures : List (Figure Asked)
 figures =
     figure (bch3_block 4 9 2 0) (negsuc 3)
     ∷ figure (bch3_block 4 9 2 1) (pos 4)
@@ -63,9 +69,5 @@ by_rules (eh3_block n s j q) = eh3_block_sum n s j q
 by_rules (eh3_interval n s a b) = eh3_cover n s a b
 by_rules (offset_block n o s j q) = eh3_round n s ((q * 2 ^ j + o) % 2 ^ n) (2 ^ j)
 
-pub record Holds (f : Figure) : Type 0 where
-  pub signs : by_signs f.asked ≡ Ok f.gives
-  pub rules : by_rules f.asked ≡ f.gives
-
 abbrev pub FiguresHold : Type 0
-FiguresHold = AllByRecursion Holds figures
+FiguresHold = AllByRecursion (Holds by_signs by_rules) figures

@@ -22,7 +22,7 @@ impl Bch3 {
     pub fn new(width: u32) -> Result<Bch3, Fault>
         ensures { result_map_both (λ f. bch3 f.width) (λ e. e) result ≡ answer (width_check 1 24 width) (bch3 width) }
     {
-        if width < 1 || width > 24 {
+        if !(1..=24).contains(&width) {
             return Err(Layer::Family.fault(Reason::Width, 0));
         }
         Ok(Bch3 { width })

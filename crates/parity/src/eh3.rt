@@ -22,7 +22,7 @@ impl Eh3 {
     pub fn new(width: u32) -> Result<Eh3, Fault>
         ensures { result_map_both (λ f. eh3 f.width) (λ e. e) result ≡ answer (eh3_width_check width) (eh3 width) }
     {
-        if width < 2 || width > 24 || width % 2 != 0 {
+        if !(2..=24).contains(&width) || width % 2 != 0 {
             return Err(Layer::Family.fault(Reason::Width, 0));
         }
         Ok(Eh3 { width })

@@ -1,5 +1,5 @@
 //! The sketch as mathematics: what each of its calls refuses and makes, whole runs of calls, and the law over them. The definitions and their
-//! proofs are the crate; the code has only the two types that the calls take and answer.
+//! proofs are the crate; the code has only the types that the calls take and answer.
 
 #![tactic(auto)]
 
@@ -9,6 +9,13 @@ pub struct Booking {
     pub from: u32,
     pub to: u32,
     pub weight: i32,
+}
+
+/// The shape of a sketch: its groups, and the columns of each.
+#[derive(Clone, Copy, PartialEq, Eq, Debug)]
+pub struct Shape {
+    pub groups: usize,
+    pub columns: usize,
 }
 
 /// An estimate of the overlap of two sketches: the middle of the groups' totals, still to be divided by the columns.

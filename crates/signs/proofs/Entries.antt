@@ -1,11 +1,11 @@
 -- Checks of one entry after another, by a loop's turns. Assumes nothing.
-use Rattle.std.proofs.Common.{◌≡◌, ℕ, zero, suc, ◌+◌, ◌<◌, ◌≤◌, Bool, false, ltb, ◌⊎◌, List, length, get_or, Some, None, Option, option_map, sym, refl, ap, ◌∙◌, inl, inr, add-one, arith}
+use Rattle.std.proofs.Common.{◌≡◌, ℕ, zero, suc, ◌+◌, ◌<◌, ◌≤◌, Bool, false, ltb, ◌⊎◌, List, length, get_or, Some, None, Ok, Err, Option, Result, option_map, sym, refl, ap, ◌∙◌, inl, inr, add-one, arith}
 use Rattle.std.specs.List.{position, position_or_len}
 use Rattle.std.proofs.lemmas.Bool.{cases_eq, cases_lt, lt-ltb, cond-true}
 use Rattle.std.proofs.lemmas.List.Quantifiers.{position-Some}
 use Rattle.std.proofs.lemmas.List.Sums.{fails_before_first}
 use Rattle.signs.specs.declared.faults.Fault.{Fault}
-use Rattle.signs.specs.Faults.{Refusal, refuse_if, ◌⨾◌, check_each}
+use Rattle.signs.specs.Faults.{Refusal, refuse_if, ◌⨾◌, check_each, answer}
 use Rattle.signs.proofs.Answers.{first_none, then_none}
 
 pub each_none : (check : ℕ → Refusal) → check_each 0 check ≡ None
@@ -61,3 +61,21 @@ each_position bad xs d check fault None e is = each_all (length xs) check (λ k 
 
     none : (k : ℕ) → k < length xs → bad (get_or xs k d) ≡ false
     none k l = fails_before_first bad xs k d (omega (arith, past))
+
+abbrev answered : Refusal → Result (Unit {0}) Fault
+answered r = answer r tt
+
+abbrev refuse : Fault → Result (Unit {0}) Fault
+refuse f = Err f
+
+-- and so the call that looks for it answers as the checks do
+module _ {A : Type 0} (bad : A → Bool) (xs : List A) (d : A) (check : ℕ → Refusal) (fault : ℕ → Fault) (found : Option ℕ) (first : found ≡ position bad xs)
+    (is : (k : ℕ) → k < length xs → check k ≡ refuse_if (bad (get_or xs k d)) (fault k)) where
+  answer_is : answered (check_each (length xs) check) ≡ answered (option_map fault found)
+  answer_is = ap answered (each_position bad xs d check fault found first is)
+
+  pub first_refused : (k : ℕ) (f : Fault) → found ≡ Some k → f ≡ fault k → refuse f ≡ answered (check_each (length xs) check)
+  first_refused k f e h = ap refuse h ∙ ap (λ o. answered (option_map fault o)) (sym e) ∙ sym answer_is
+
+  pub none_refused : found ≡ None → Ok tt ≡ answered (check_each (length xs) check)
+  none_refused e = ap (λ o. answered (option_map fault o)) (sym e) ∙ sym answer_is

@@ -13,7 +13,7 @@ use Rattle.sketch.specs.declared.HeldSketch.{HeldSketch}
 use Rattle.sketch.specs.declared.Refused.{Refused}
 
 abbrev pub tally_of : Figures → Tally
-tally_of f = record { groups = f.groups; columns = f.columns; gross = f.gross; net = f.net }
+tally_of f = record { groups = f.shape.groups; columns = f.shape.columns; gross = f.gross; net = f.net }
 
 abbrev pub state_of : Figures → List ℤ → Option Booking → State
 state_of f cells option = record { tally = tally_of f; cells = cells; option = option }

@@ -4,15 +4,6 @@ ghost use Rattle.model.specs.Calls.{gains, add_each};
 use model::Booking;
 use signs::{SignFamily, interval_sum};
 
-// Sets every cell to 0.
-pub(crate) fn clear(cells: &mut [i64])
-    ensures { cells.new ≡ replicate (length cells.old) (pos 0) }
-{
-    for cell in cells.iter_mut() {
-        *cell = 0;
-    }
-}
-
 // Adds each of the other cells to the cell beside it.
 pub(crate) fn add(cells: &mut [i64], others: &[i64])
     requires same { length others.now ≡ length cells.old }
@@ -37,7 +28,7 @@ pub(crate) fn book<F: SignFamily>(family: &F, seeds: &[u64], cells: &mut [i64], 
 {
     let weight = i64::from(booking.weight);
     for (k, seed) in seeds.iter().enumerate() {
-        let Ok(sum) = interval_sum(family, *seed, booking.from, booking.to) else {
+        let Ok(sum) = interval_sum(family, *seed, booking.from..booking.to) else {
             unreachable()
         };
         cells[k] += weight * sum;

@@ -5,8 +5,8 @@ ghost use Rattle.sketch.specs.Promises.{tally_of};
 
 use crate::Figures;
 use model::Booking;
-use signs::{Fault, Reason, SignFamily, check_interval};
-use tables::{OWN_CELLS, SEEDS, check_cells, check_length, check_limit, check_seeds};
+use signs::{Fault, Layer, Reason, SignFamily, check_interval};
+use tables::{Table, check_cells, check_length, check_limit, check_seeds};
 
 // Refuses seeds or cells that do not fit the figures, for their lengths (10), a seed (5) or a cell (11).
 pub(crate) fn check_tables<F: SignFamily>(
@@ -17,9 +17,8 @@ pub(crate) fn check_tables<F: SignFamily>(
 ) -> Result<(), Fault>
     ensures { result ≡ answer (tables_check (F.meaning family.now) seeds.now (tally_of figures.now) cells.now) tt }
 {
-    let entries = figures.groups * figures.columns;
-    check_length(seeds, entries, SEEDS)?;
-    check_length(cells, entries, OWN_CELLS)?;
+    check_length(seeds, figures.entries(), Table::Seeds.into())?;
+    check_length(cells, figures.entries(), Table::OwnCells.into())?;
     check_seeds(family, seeds)?;
     check_cells(cells, figures.gross, 0)
 }
@@ -42,10 +41,9 @@ pub(crate) fn check_booking<F: SignFamily>(
     requires { (gross ≤ 2 ^ 26) × (times ≤ 2) }
     ensures { result ≡ answer (booking_check (F.meaning family.now) times gross booking) tt }
 {
-    let size = booking.weight.unsigned_abs();
-    if size == 0 || size > 1000 {
-        return Err(Fault::of_sketch(Reason::Weight, 0));
+    if !(1..=1000).contains(&booking.weight.unsigned_abs()) {
+        return Err(Layer::Sketch.fault(Reason::Weight, 0));
     }
-    check_interval(family.width(), booking.from, booking.to)?;
+    check_interval(family.width(), &(booking.from..booking.to))?;
     check_limit(gross + times * mass_of(booking))
 }

@@ -15,17 +15,16 @@ mod options;
 mod posting;
 mod tally;
 
-pub use model::Booking;
+pub use model::{Booking, Shape};
 
 /// The figures of a sketch: its shape, the gross (the masses of all that was ever booked or taken off again) and the net (the sum of the
 /// standing weights over all slots).
 #[derive(Clone, Copy)]
 pub struct Figures {
-    groups: usize,
-    columns: usize,
+    shape: Shape,
     gross: u64,
     net: i64,
-    ghost shaped: { (groups % 2 ≡ 1) × (groups ≤ 15) × (1 ≤ columns) × (columns ≤ 32) },
+    ghost shaped: { (shape.groups % 2 ≡ 1) × (shape.groups ≤ 15) × (1 ≤ shape.columns) × (shape.columns ≤ 32) },
     ghost limited: { gross ≤ 2 ^ 26 },
     ghost inside: { unsigned_abs net ≤ gross },
 }

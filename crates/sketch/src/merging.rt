@@ -6,25 +6,17 @@ ghost use Rattle.sketch.specs.Promises.{tally_of, open_state, Merges};
 use crate::cells::add;
 use crate::{Figures, OpenSketch};
 use signs::Fault;
-use tables::{
-    FIRST_OTHER_CELL, OTHER_CELLS, OWN_CELLS, check_cells, check_length, check_limit,
-    check_same_shape,
-};
+use tables::{FIRST_OTHER_CELL, Table, check_cells, check_length, check_limit, check_same_shape};
 
 impl OpenSketch {
     // Refuses another sketch for its shape (9), the lengths of the two tables (10), a cell (11) or the gross limit (13).
     fn check_merge(&self, cells: &[i64], other: &Figures, other_cells: &[i64]) -> Result<(), Fault>
         ensures { result ≡ answer (merge_refusal (open_state self.now cells.now) (tally_of other.now) other_cells.now) tt }
     {
-        check_same_shape(
-            self.figures.groups,
-            self.figures.columns,
-            other.groups,
-            other.columns,
-        )?;
-        let entries = self.figures.groups * self.figures.columns;
-        check_length(cells, entries, OWN_CELLS)?;
-        check_length(other_cells, entries, OTHER_CELLS)?;
+        check_same_shape(self.figures.shape, other.shape)?;
+        let due = self.figures.entries();
+        check_length(cells, due, Table::OwnCells.into())?;
+        check_length(other_cells, due, Table::OtherCells.into())?;
         check_cells(cells, self.figures.gross, 0)?;
         check_cells(other_cells, other.gross, FIRST_OTHER_CELL)?;
         check_limit(self.figures.gross + other.gross)

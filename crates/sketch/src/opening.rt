@@ -4,24 +4,23 @@ ghost use Rattle.model.specs.Calls.{open_refusal};
 ghost use Rattle.model.specs.Law.{SketchLaw};
 ghost use Rattle.sketch.specs.Promises.{Opens};
 
-use crate::cells::clear;
-use crate::{Figures, OpenSketch};
+use crate::{Figures, OpenSketch, Shape};
 use signs::{Fault, SignFamily};
-use tables::{OWN_CELLS, SEEDS, check_length, check_seeds, check_shape};
+use tables::{Table, check_length, check_seeds, check_shape};
 
 // Refuses a shape (9), tables of other lengths than it has (10), or a seed (5).
 fn check_opening<F: SignFamily>(
     family: &F,
-    groups: usize,
-    columns: usize,
+    shape: Shape,
     seeds: &[u64],
     cells: &[i64],
 ) -> Result<(), Fault>
-    ensures { result ≡ answer (open_refusal (F.meaning family.now) groups columns seeds.now cells.now) tt }
+    ensures { result ≡ answer (open_refusal (F.meaning family.now) shape.groups shape.columns seeds.now cells.now) tt }
 {
-    check_shape(groups, columns)?;
-    check_length(seeds, groups * columns, SEEDS)?;
-    check_length(cells, groups * columns, OWN_CELLS)?;
+    check_shape(shape)?;
+    let due = shape.groups * shape.columns;
+    check_length(seeds, due, Table::Seeds.into())?;
+    check_length(cells, due, Table::OwnCells.into())?;
     check_seeds(family, seeds)
 }
 
@@ -33,19 +32,17 @@ impl OpenSketch {
     /// The clause `law` is what a sketch is for: over every run of calls its cells hold exactly what was booked, and the estimate has no bias.
     pub fn open<F: SignFamily>(
         family: &F,
-        groups: usize,
-        columns: usize,
+        shape: Shape,
         seeds: &[u64],
         cells: &mut [i64],
     ) -> Result<OpenSketch, Fault>
-        ensures opens { Opens (F.meaning family.now) groups columns seeds.now cells.old result cells.new }
+        ensures opens { Opens (F.meaning family.now) shape.groups shape.columns seeds.now cells.old result cells.new }
         ensures law { SketchLaw (F.meaning family.now) }
     {
-        check_opening(family, groups, columns, seeds, cells)?;
-        clear(cells);
+        check_opening(family, shape, seeds, cells)?;
+        cells.fill(0);
         let figures = Figures {
-            groups,
-            columns,
+            shape,
             gross: 0,
             net: 0,
         };

@@ -36,7 +36,7 @@ impl HeldSketch {
         ensures { Releases (F.meaning family.now) seeds.now self.now.option (tally_of self.now.figures) cells.old result cells.new }
     {
         check_tables(family, seeds, &self.figures, cells)?;
-        check_interval(family.width(), self.option.from, self.option.to)?;
+        check_interval(family.width(), &(self.option.from..self.option.to))?;
         let opposite = Booking {
             weight: -self.option.weight,
             ..self.option

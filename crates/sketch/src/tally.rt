@@ -1,22 +1,37 @@
 ghost use Rattle.std.specs.Prelude.{◌≡◌, ◌+◌, ◌^◌, ◌≤◌, unsigned_abs};
-ghost use Rattle.model.specs.Calls.{gained_tally};
+ghost use Rattle.model.specs.Calls.{entries, gained_tally};
 ghost use Rattle.sketch.specs.Promises.{tally_of};
 
-use crate::Figures;
+use crate::{Figures, Shape};
 
 impl Figures {
+    /// The shape.
+    pub fn shape(&self) -> Shape
+        ensures groups { result.groups ≡ (tally_of self.now).groups }
+        ensures columns { result.columns ≡ (tally_of self.now).columns }
+    {
+        self.shape
+    }
+
+    /// How many seeds the sketch has, and how many cells.
+    pub fn entries(&self) -> usize
+        ensures { result ≡ entries (tally_of self.now) }
+    {
+        self.shape.groups * self.shape.columns
+    }
+
     /// The number of groups, odd and 1 to 15.
     pub fn groups(&self) -> usize
         ensures { result ≡ (tally_of self.now).groups }
     {
-        self.groups
+        self.shape.groups
     }
 
     /// The columns of each group, 1 to 32.
     pub fn columns(&self) -> usize
         ensures { result ≡ (tally_of self.now).columns }
     {
-        self.columns
+        self.shape.columns
     }
 
     /// The masses of all bookings and withdrawals together, at most 2^26.
@@ -40,8 +55,7 @@ impl Figures {
         ensures { tally_of result ≡ gained_tally (tally_of self) gross net }
     {
         Figures {
-            groups: self.groups,
-            columns: self.columns,
+            shape: self.shape,
             gross: self.gross + gross,
             net: self.net + net,
         }

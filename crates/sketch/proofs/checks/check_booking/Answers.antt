@@ -10,8 +10,10 @@ few : (g : given.Over) (c : After-mass_of g) → c.args.times * c.mass_of.result
 few g c =
     let b = c.args.booking in
     let fits : SFits w32 b.weight = search rules in
-    let size = simp to_z-of_z at c.unsigned_abs-size.ensures.value in
-    let light : nat_abs b.weight ≤ 1000 = omega arith in
+    let size = simp to_z-of_z at c.unsigned_abs.ensures.value in
+    let within = c.contains.ensures in
+    let told = c.if-not-contains.false in
+    let light : nat_abs b.weight ≤ 1000 = grind arith in
     let short : b.to - b.from ≤ 2 ^ 32 = omega arith in
     let mass = mul-le (nat_abs b.weight) (b.to - b.from) 1000 (2 ^ 32) light short in
     mul-le c.args.times c.mass_of.result 2 (1000 * 2 ^ 32) c.requires.1 (omega arith)

@@ -1,5 +1,5 @@
 -- What each call of a sketch refuses, and what it makes of the sketch and its cells. Assumes nothing.
-use Rattle.std.specs.Prelude.{ℕ, ◌+◌, ◌-◌, ◌*◌, ◌%◌, ◌^◌, not, ◌||◌, List, [], ◌∷◌, map, length, replicate, ℤ, pos, ◌+ℤ◌, ◌*ℤ◌, neg_ℤ, Some, None, Option, ◌==◌, nat_le, nat_lt, slice_index, slice_index_or, unsigned_abs}
+use Rattle.std.specs.Prelude.{ℕ, ◌+◌, ◌-◌, ◌*◌, ◌%◌, ◌^◌, ◌<◌, ◌≤◌, not, ◌||◌, List, [], ◌∷◌, map, length, replicate, ℤ, pos, ◌+ℤ◌, ◌*ℤ◌, neg_ℤ, Some, None, Option, ◌==◌, nat_le, nat_lt, slice_index, slice_index_or, unsigned_abs}
 use Rattle.signs.specs.declared.reason.Reason.TheVariants.{Seed, Shape, Table, ForeignCells, Weight, Full}
 use Rattle.signs.specs.Faults.{Refusal, refuse_if, ◌⨾◌, check_each, family_fault, sketch_fault}
 use Rattle.signs.specs.Family.{Meaning, interval_sum, interval_check}
@@ -71,6 +71,10 @@ other_cells = 480
 
 abbrev pub gross_limit : ℕ
 gross_limit = 2 ^ 26
+
+-- no cell is larger in size than the gross of a sketch may be
+abbrev pub AreWithinLimit : List ℤ → Type 0
+AreWithinLimit cells = (k : ℕ) → k < length cells → unsigned_abs (slice_index_or cells k (pos 0)) ≤ gross_limit
 
 -- groups that are even or above 15, or columns outside of 1 to 32
 abbrev pub shape_check : ℕ → ℕ → Refusal

@@ -1,3 +1,4 @@
 pub mod Counts
 pub mod Products
 pub mod Comparable
+pub mod Rows

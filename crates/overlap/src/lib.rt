@@ -2,64 +2,79 @@
 
 #![tactic(auto)]
 
-ghost use Rattle.std.specs.Prelude.{◌≡◌, ℕ, suc, ◌*◌, ◌^◌, ◌<◌, ◌≤◌, length, pos, IfOk, int_le, slice_index_or, unsigned_abs};
+ghost use Rattle.std.specs.List.{find};
+ghost use Rattle.std.specs.Prelude.{◌≡◌, suc, ◌*◌, ◌≤◌, take, drop, length, pos, ◌*ℤ◌, IfOk, int_le, slice_index_or};
 ghost use Rattle.signs.specs.Faults.{answer};
-ghost use Rattle.model.specs.Middle.{smaller, greater, middle_of, Middle};
-ghost use Rattle.model.specs.Overlap.{group_total, overlap_refusal, overlap_answer, overlap_totals};
+ghost use Rattle.signs.specs.Sums.{sum};
+ghost use Rattle.model.specs.Calls.{AreWithinLimit};
+ghost use Rattle.model.specs.Middle.{smaller, greater, central, middle_of, Middle};
+ghost use Rattle.model.specs.Overlap.{overlap_refusal, overlap_answer, overlap_totals};
 ghost use Rattle.sketch.specs.Promises.{tally_of};
 
 pub use model::Estimate;
 use signs::Fault;
 use sketch::Figures;
-use std::cmp::Ordering;
-use tables::{
-    FIRST_OTHER_CELL, OTHER_CELLS, OWN_CELLS, TOTALS, check_cells, check_length, check_same_shape,
-};
+use tables::{FIRST_OTHER_CELL, Table, check_cells, check_length, check_same_shape};
 
-// How many totals are smaller than `pivot`, and how many are greater.
-fn ranks(totals: &[i64], pivot: i64) -> (usize, usize)
-    ensures smaller { result.0 ≡ smaller int_le totals.now pivot }
-    ensures greater { result.1 ≡ greater int_le totals.now pivot }
+// How many totals are smaller than the pivot.
+fn smaller_count(totals: &[i64], pivot: i64) -> usize
+    ensures { result ≡ smaller int_le totals.now pivot }
 {
-    let mut below = 0;
-    let mut above = 0;
-    for total in totals {
-        match (*total).cmp(&pivot) {
-            Ordering::Less => below += 1,
-            Ordering::Equal => {}
-            Ordering::Greater => above += 1,
-        }
-    }
-    (below, above)
+    totals.iter().filter(|total| **total < pivot).count()
 }
 
-// The first total that has at most half of the others below it and at most half above it: no sorting, and no memory.
+// How many are greater.
+fn greater_count(totals: &[i64], pivot: i64) -> usize
+    ensures { result ≡ greater int_le totals.now pivot }
+{
+    totals.iter().filter(|total| **total > pivot).count()
+}
+
+// Whether at most half of the other totals are smaller than this one, and at most half greater.
+fn is_central(totals: &[i64], pivot: i64) -> bool
+    ensures { result ≡ central int_le totals.now pivot }
+{
+    let half = totals.len().saturating_sub(1) / 2;
+    smaller_count(totals, pivot) <= half && greater_count(totals, pivot) <= half
+}
+
+// The first total that is central, where there is one.
+fn first_central(totals: &[i64]) -> Option<i64>
+    ensures { result ≡ find (λ total. central int_le totals.now total) totals.now }
+{
+    totals
+        .iter()
+        .copied()
+        .find(|total| is_central(totals, *total))
+}
+
+// The middle of the totals: no sorting, and no memory.
 fn middle_of(totals: &[i64]) -> i64
     ensures { result ≡ middle_of totals.now }
 {
-    let half = totals.len().saturating_sub(1) / 2;
-    for total in totals {
-        let (below, above) = ranks(totals, *total);
-        if below <= half && above <= half {
-            return *total;
-        }
-    }
-    0
+    first_central(totals).unwrap_or(0)
 }
 
-// The sum over a group's columns of the products of the two cells.
-fn total_of(first_cells: &[i64], second_cells: &[i64], columns: usize, group: usize) -> i64
-    requires first { suc group * columns ≤ length first_cells.now }
-    requires second { suc group * columns ≤ length second_cells.now }
-    requires few { columns ≤ 32 }
-    requires first_small { (k : ℕ) → k < length first_cells.now → unsigned_abs (slice_index_or first_cells.now k (pos 0)) ≤ 2 ^ 26 }
-    requires second_small { (k : ℕ) → k < length second_cells.now → unsigned_abs (slice_index_or second_cells.now k (pos 0)) ≤ 2 ^ 26 }
-    ensures { result ≡ group_total columns first_cells.now second_cells.now group }
+// The cells of a group.
+fn row(cells: &[i64], columns: usize, group: usize) -> &[i64]
+    requires { suc group * columns ≤ length cells.now }
+    ensures { result.now ≡ take columns (drop (group * columns) cells.now) }
 {
     let start = group * columns;
+    &cells[start..start + columns]
+}
+
+// The sum of the products of the cells beside one another, in two rows of a group.
+fn total_of(cells: &[i64], others: &[i64]) -> i64
+    requires same { length others.now ≡ length cells.now }
+    requires few { length cells.now ≤ 32 }
+    requires own { AreWithinLimit cells.now }
+    requires other { AreWithinLimit others.now }
+    ensures { result ≡ sum (length cells.now) (λ j. slice_index_or cells.now j (pos 0) *ℤ slice_index_or others.now j (pos 0)) }
+{
     let mut total = 0;
-    for j in 0..columns {
-        total += first_cells[start + j] * second_cells[start + j];
+    for (cell, other) in cells.iter().zip(others) {
+        total += cell * other;
     }
     total
 }
@@ -74,12 +89,11 @@ fn check_overlap(
 ) -> Result<(), Fault>
     ensures { result ≡ answer (overlap_refusal (tally_of first.now) first_cells.now (tally_of second.now) second_cells.now totals.now) tt }
 {
-    let groups = first.groups();
-    let columns = first.columns();
-    check_same_shape(groups, columns, second.groups(), second.columns())?;
-    check_length(first_cells, groups * columns, OWN_CELLS)?;
-    check_length(second_cells, groups * columns, OTHER_CELLS)?;
-    check_length(totals, groups, TOTALS)?;
+    let due = first.entries();
+    check_same_shape(first.shape(), second.shape())?;
+    check_length(first_cells, due, Table::OwnCells.into())?;
+    check_length(second_cells, due, Table::OtherCells.into())?;
+    check_length(totals, first.groups(), Table::Totals.into())?;
     check_cells(first_cells, first.gross(), 0)?;
     check_cells(second_cells, second.gross(), FIRST_OTHER_CELL)
 }
@@ -101,8 +115,11 @@ pub fn overlap(
 {
     check_overlap(first, first_cells, second, second_cells, totals)?;
     let columns = first.columns();
-    for group in 0..first.groups() {
-        totals[group] = total_of(first_cells, second_cells, columns, group);
+    for (group, total) in totals.iter_mut().enumerate() {
+        *total = total_of(
+            row(first_cells, columns, group),
+            row(second_cells, columns, group),
+        );
     }
     Ok(Estimate {
         columns,

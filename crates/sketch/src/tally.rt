@@ -17,7 +17,8 @@ impl Figures {
     pub fn entries(&self) -> usize
         ensures { result ≡ entries (tally_of self.now) }
     {
-        self.shape.groups * self.shape.columns
+        let Shape { groups, columns } = self.shape;
+        groups * columns
     }
 
     /// The number of groups, odd and 1 to 15.

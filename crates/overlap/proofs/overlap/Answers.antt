@@ -1,10 +1,13 @@
-use Rattle.std.proofs.Common.{◌≡◌, ℕ, suc, ◌*◌, ◌%◌, ◌<◌, ◌≤◌, List, map, length, get_or, set, ℤ, pos, None, Ok, sym, ap, ◌∙◌, subst, ap₂, subst₂, mul-le-mul_right, arith, w64, SFits, to_z, of_z, rules}
+use Rattle.std.proofs.Common.{◌≡◌, ℕ, suc, ◌*◌, ◌%◌, ◌<◌, ◌≤◌, List, map, length, get_or, set, ℤ, pos, ◌*ℤ◌, None, Ok, sym, ap, ◌∙◌, subst, ap₂, subst₂, mul-le-mul_right, arith, w64, SFits, to_z, of_z, rules}
 use Rattle.std.proofs.lemmas.List.FromFn.{length-map-range_with_len, get_or-map-range_with_len}
 use Rattle.std.proofs.lemmas.Int.{to_z-of_z}
 use Rattle.std.specs.List.{range_with_len}
 use Rattle.signs.specs.Faults.{Refusal, answer, unless}
+use Rattle.signs.specs.Sums.{sum}
+use Rattle.signs.specs.SumsLemmas.{sum_ext}
 use Rattle.signs.proofs.Answers.{accepted}
 use Rattle.model.specs.declared.Estimate.{Estimate}
+use Rattle.model.specs.Calls.{entries}
 use Rattle.model.specs.Middle.{Middle, middle_of}
 use Rattle.model.specs.Overlap.{group_total, estimate, overlap_refusal}
 use Rattle.model.proofs.Middle.{middle_of_lem}
@@ -12,7 +15,8 @@ use Rattle.sketch.specs.Promises.{tally_of}
 use Rattle.tables.proofs.Swept.{swept_more, swept_all}
 use Rattle.overlap.proofs.Comparable.{Comparable, overlap_passed}
 use Rattle.overlap.proofs.overlap.Goals as goal
-use Rattle.overlap.proofs.overlap.Goals.{In_ok-check_overlap}
+use Rattle.overlap.proofs.Rows.{Row, row_is}
+use Rattle.overlap.proofs.overlap.Goals.{In_ok-check_overlap, After-row-in-loop-group}
 
 module _ (c : In_ok-check_overlap) where
   abbrev refusal : Refusal
@@ -28,50 +32,78 @@ module _ (c : In_ok-check_overlap) where
   fine = overlap_passed _ _ _ _ _ free
 
   abbrev one : ℕ → ℤ
-  one = group_total c.args.first.now.columns c.args.first_cells.now c.args.second_cells.now
+  one = group_total c.args.first.now.shape.columns c.args.first_cells.now c.args.second_cells.now
 
   abbrev all : List ℤ
-  all = map one (range_with_len 0 c.args.first.now.groups)
+  all = map one (range_with_len 0 c.args.first.now.shape.groups)
 
-  many : length all ≡ c.args.first.now.groups
-  many = length-map-range_with_len one 0 c.args.first.now.groups
+  many : length all ≡ c.args.first.now.shape.groups
+  many = length-map-range_with_len one 0 c.args.first.now.shape.groups
 
   long : length all ≡ length c.args.totals.now
   long = many ∙ sym fine.totals_long
 
+-- a group's cells are there
+row_there : (c : In_ok-check_overlap) (n group : ℕ) (cells : List ℤ) → n ≡ c.args.first.now.shape.columns → group < length c.args.totals.now → length cells ≡ entries (tally_of c.args.first.now) → suc group * n ≤ length cells
+row_there c n group cells e below long =
+    let row : suc group * c.args.first.now.shape.columns ≤ c.args.first.now.shape.groups * c.args.first.now.shape.columns = mul-le-mul_right c.args.first.now.shape.columns (omega (arith, (fine c).totals_long, below)) in
+    subst (λ m. suc group * m ≤ length cells) (sym e) (omega (arith, row, long))
+
+pub row-requires : goal.row-requires
+row-requires c = let w = (goal.at.row-requires c).In_ok-check_overlap in row_there w _ _ _ c.columns-columns.ensures c.loop-group-test.true (fine w).first_long
+
+pub row-requires-in-loop-group : goal.row-requires-in-loop-group
+row-requires-in-loop-group c = let w = (goal.at.row-requires-in-loop-group c).In_ok-check_overlap in row_there w _ _ _ c.columns-columns.ensures c.loop-group-test.true (fine w).second_long
+
+-- the rows of the two sketches
+record Rows (c : After-row-in-loop-group) : Type 0 where
+  first : Row c.columns-columns.result c.loop-group.group c.args.first_cells.now c.row.result.now
+  second : Row c.columns-columns.result c.loop-group.group c.args.second_cells.now c.row-in-loop-group.result.now
+
+rows : (c : After-row-in-loop-group) → Rows c
+rows c =
+    let w = (goal.at.After-row-in-loop-group c).In_ok-check_overlap in
+    record {
+      first = row_is _ _ _ _ (row_there w _ _ _ c.columns-columns.ensures c.loop-group-test.true (fine w).first_long) c.row.ensures;
+      second = row_is _ _ _ _ (row_there w _ _ _ c.columns-columns.ensures c.loop-group-test.true (fine w).second_long) c.row-in-loop-group.ensures;
+    }
+
 pub total_of-requires : goal.total_of-requires
 total_of-requires c =
     let f = fine (goal.at.total_of-requires c).In_ok-check_overlap in
-    let n = c.args.first.now.columns in
-    let below : c.loop-group.group < c.args.first.now.groups = omega (arith, c.groups-group-end.ensures, c.loop-group-test.true) in
-    let row : suc c.loop-group.group * n ≤ c.args.first.now.groups * n = mul-le-mul_right n below in
+    let r = rows (goal.at.total_of-requires c).After-row-in-loop-group in
     record {
-      first = subst (λ m. suc c.loop-group.group * m ≤ length c.args.first_cells.now) (sym c.columns-columns.ensures) (omega (arith, row, f.first_long));
-      second = subst (λ m. suc c.loop-group.group * m ≤ length c.args.second_cells.now) (sym c.columns-columns.ensures) (omega (arith, row, f.second_long));
-      few = omega (arith, c.columns-columns.ensures, c.args.first.now.shaped.3);
-      first_small = λ k h. omega (arith, f.first_small k h, c.args.first.now.limited);
-      second_small = λ k h. omega (arith, f.second_small k h, c.args.second.now.limited);
+      same = r.second.long ∙ sym r.first.long;
+      few = omega (arith, r.first.long, c.columns-columns.ensures, c.args.first.now.shaped.3);
+      own = r.first.limited (λ k h. omega (arith, f.first_small k h, c.args.first.now.limited));
+      other = r.second.limited (λ k h. omega (arith, f.second_small k h, c.args.second.now.limited));
     }
 
 pub loop-group-preserved : goal.loop-group-preserved
 loop-group-preserved c =
     let w = (goal.at.loop-group-preserved c).In_ok-check_overlap in
+    let r = rows (goal.at.loop-group-preserved c).After-row-in-loop-group in
     let i = c.loop-group.group in
-    let below : i < c.args.first.now.groups = omega (arith, c.groups-group-end.ensures, c.loop-group-test.true) in
+    let n = c.columns-columns.result in
+    let cells = c.args.first_cells.now in
+    let others = c.args.second_cells.now in
+    let below : i < c.args.first.now.shape.groups = omega (arith, (fine w).totals_long, c.loop-group-test.true) in
     let fits : SFits w64 c.total_of.result = search rules in
-    let total : c.total_of.result ≡ one w i = c.total_of.ensures ∙ ap (λ m. group_total m c.args.first_cells.now c.args.second_cells.now i) c.columns-columns.ensures in
+    let total : c.total_of.result ≡ one w i =
+    c.total_of.ensures
+    ∙ ap (λ m. sum m (λ j. get_or c.row.result.now j (pos 0) *ℤ get_or c.row-in-loop-group.result.now j (pos 0))) r.first.long
+    ∙ sum_ext n _ _ (λ j l. ap₂ ◌*ℤ◌ (r.first.at j l) (r.second.at j l))
+    ∙ ap (λ m. group_total m cells others i) c.columns-columns.ensures in
     let here : to_z w64 (of_z w64 c.total_of.result) ≡ get_or (all w) i (pos 0) =
-    to_z-of_z w64 c.total_of.result fits ∙ total ∙ sym (get_or-map-range_with_len (one w) 0 c.args.first.now.groups i i (pos 0) below (omega arith)) in
-    ap (set c.loop-group.totals i) here
-    ∙ swept_more c.args.totals.now (all w) (long w) c.loop-group.totals i (pos 0) (omega (arith, (fine w).totals_long, below)) c.loop-group.invariant
+    to_z-of_z w64 c.total_of.result fits ∙ total ∙ sym (get_or-map-range_with_len (one w) 0 c.args.first.now.shape.groups i i (pos 0) below (omega arith)) in
+    ap (set c.loop-group.totals i) here ∙ swept_more c.args.totals.now (all w) (long w) c.loop-group.totals i (pos 0) c.loop-group-test.true c.loop-group.invariant
 
 pub returns : goal.returns
 returns c =
     let w = (goal.at.returns c).In_ok-check_overlap in
     let t = tally_of c.args.first.now in
     let fits : SFits w64 c.middle_of.result = search rules in
-    let past : length c.args.totals.now ≤ c.loop-group.group = omega (arith, (fine w).totals_long, c.groups-group-end.ensures, c.loop-group-test.false) in
-    let done : c.loop-group.totals ≡ all w = swept_all c.args.totals.now (all w) (long w) c.loop-group.totals c.loop-group.group past c.loop-group.invariant in
+    let done : c.loop-group.totals ≡ all w = swept_all c.args.totals.now (all w) (long w) c.loop-group.totals c.loop-group.group c.loop-group-test.false c.loop-group.invariant in
     let odd : length (all w) % 2 ≡ 1 = ap (λ n. n % 2) (many w) ∙ c.args.first.now.shaped.0 in
     let middle : to_z w64 (of_z w64 c.middle_of.result) ≡ middle_of (all w) = to_z-of_z w64 c.middle_of.result fits ∙ c.middle_of.ensures ∙ ap middle_of done in
     let made : ℕ → ℤ → Estimate = λ n z. record { columns = n; middle = z } in

@@ -1,32 +1,52 @@
-use Rattle.std.proofs.Common.{◌≡◌, ℕ, suc, ◌+◌, ◌*◌, ◌^◌, ◌<◌, ◌≤◌, get_or, ℤ, pos, nat_abs, sym, arith}
+use Rattle.std.proofs.Common.{◌≡◌, ℕ, ◌^◌, ◌<◌, ◌≤◌, ◌∷◌, [], length, get_or, ℤ, pos, ◌*ℤ◌, nat_abs, sym, ap, ◌∙◌, length-append, arith, rules}
+use Rattle.std.proofs.lemmas.Slice.Zip.{zip_turn}
+use Rattle.signs.specs.Sums.{sum}
 use Rattle.signs.specs.SumsLemmas.{sum_none}
 use Rattle.overlap.proofs.Products.{product_fits, total_fits, total_more}
 use Rattle.overlap.proofs.total_of.Goals as goal
-use Rattle.overlap.proofs.total_of.Goals.{In-loop-j}
+use Rattle.overlap.proofs.total_of.Goals.{In-Some}
 
--- the two cells of a column
-abbrev left : In-loop-j → ℕ → ℤ
-left c k = get_or c.args.first_cells.now (c.args.group * c.args.columns + k) (pos 0)
+-- the cell and the one beside it, of a turn
+record Turn (c : In-Some) : Type 0 where
+  few : length c.loop-cell.yielded < 32
+  small : (k : ℕ) → k ≤ length c.loop-cell.yielded → (nat_abs (get_or c.args.cells.now k (pos 0)) ≤ 2 ^ 26) × (nat_abs (get_or c.args.others.now k (pos 0)) ≤ 2 ^ 26)
+  left : c.in-Some.cell.now ≡ get_or c.args.cells.now (length c.loop-cell.yielded) (pos 0)
+  right : c.in-Some.other.now ≡ get_or c.args.others.now (length c.loop-cell.yielded) (pos 0)
 
-abbrev right : In-loop-j → ℕ → ℤ
-right c k = get_or c.args.second_cells.now (c.args.group * c.args.columns + k) (pos 0)
+turn : (c : In-Some) → Turn c
+turn c =
+    let t = zip_turn c.args.cells.now c.args.others.now c.loop-cell.yielded _ _ c.next.new.self _ (search rules) (search rules) c.loop-cell.yielded_by (c.in-Some.cell, c.in-Some.other) c.in-Some.is c.next.ensures.steps in
+    record {
+      few = omega (arith, t.0, c.requires.few);
+      small = λ k h. (c.requires.own k (omega (arith, t.0)), c.requires.other k (omega (arith, t.1)));
+      left = t.2 (pos 0);
+      right = t.3 (pos 0);
+    }
 
-small : (c : In-loop-j) (k : ℕ) → k ≤ c.loop-j.j → (nat_abs (left c k) ≤ 2 ^ 26) × (nat_abs (right c k) ≤ 2 ^ 26)
-small c k h =
-    let row : suc c.args.group * c.args.columns ≡ c.args.group * c.args.columns + c.args.columns = omega arith in
-    (c.requires.first_small (c.args.group * c.args.columns + k) (omega (arith, row, c.requires.first, c.loop-j-test.true)), c.requires.second_small (c.args.group * c.args.columns + k) (omega (arith, row, c.requires.second, c.loop-j-test.true)))
+abbrev cell_of : In-Some → ℕ → ℤ
+cell_of c k = get_or c.args.cells.now k (pos 0)
 
-few : (c : In-loop-j) → c.loop-j.j < 32
-few c = omega (arith, c.requires.few, c.loop-j-test.true)
+abbrev other_of : In-Some → ℕ → ℤ
+other_of c k = get_or c.args.others.now k (pos 0)
 
-pub loop-j-init : goal.loop-j-init
-loop-j-init c = sym (sum_none _)
+pub loop-cell-init : goal.loop-cell-init
+loop-cell-init c = sym (sum_none _)
 
 pub overflow_mul-total : goal.overflow_mul-total
-overflow_mul-total c = let w = (goal.at.overflow_mul-total c).In-loop-j in product_fits (left w) (right w) c.loop-j.j (few w) (small w)
+overflow_mul-total c =
+    let w = (goal.at.overflow_mul-total c).In-Some in
+    let t = turn w in
+    product_fits (cell_of w) (other_of w) (length c.loop-cell.yielded) t.few t.small _ _ t.left t.right
 
-pub overflow_add-total-in-loop-j-2 : goal.overflow_add-total-in-loop-j-2
-overflow_add-total-in-loop-j-2 c = let w = (goal.at.overflow_add-total-in-loop-j-2 c).In-loop-j in total_fits (left w) (right w) c.loop-j.j (few w) (small w) _ c.loop-j.invariant
+pub overflow_add-total : goal.overflow_add-total
+overflow_add-total c =
+    let w = (goal.at.overflow_add-total c).In-Some in
+    let t = turn w in
+    total_fits (cell_of w) (other_of w) (length c.loop-cell.yielded) t.few t.small _ _ t.left t.right _ c.loop-cell.invariant
 
-pub loop-j-preserved : goal.loop-j-preserved
-loop-j-preserved c = let w = (goal.at.loop-j-preserved c).In-loop-j in total_more (left w) (right w) c.loop-j.j (few w) (small w) _ c.loop-j.invariant
+pub loop-cell-preserved : goal.loop-cell-preserved
+loop-cell-preserved c =
+    let w = (goal.at.loop-cell-preserved c).In-Some in
+    let t = turn w in
+    total_more (cell_of w) (other_of w) (length c.loop-cell.yielded) t.few t.small _ _ t.left t.right _ c.loop-cell.invariant
+    ∙ ap (λ n. sum n (λ k. cell_of w k *ℤ other_of w k)) (sym (length-append c.loop-cell.yielded (_ ∷ [])))

@@ -2,7 +2,6 @@ use Rattle.std.proofs.Common.{ltb, pos, nat_abs, refl, ap, ◌+◌, ◌∙◌}
 use Rattle.signs.specs.declared.reason.Reason.TheVariants.{ForeignCells}
 use Rattle.signs.specs.Faults.{sketch_fault}
 use Rattle.signs.proofs.Entries.{first_refused, none_refused}
-use Rattle.model.specs.Calls.{cell_check_at}
 use Rattle.tables.proofs.check_cells.Goals as goal
 
 pub returns-in-Some : goal.returns-in-Some

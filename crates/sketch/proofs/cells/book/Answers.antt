@@ -11,7 +11,7 @@ use Rattle.model.proofs.Ring.{abs_mul}
 use Rattle.sketch.proofs.Adding.{bitted, small_fits, bitted_is, Addable, add_fits, add_more, add_all}
 use Rattle.sketch.proofs.cells.book.Given as given
 use Rattle.sketch.proofs.cells.book.Goals as goal
-use Rattle.sketch.proofs.cells.book.Goals.{Start, In-Ok}
+use Rattle.sketch.proofs.cells.book.Goals.{Start, After-unwrap-sum}
 
 -- an interval sum is at most 2 ^ 24 in size, and a gain at most 1000 times that
 
@@ -45,24 +45,24 @@ module _ (g : given.Over) (c : Start g) where
   }
 
 -- the product that code takes is the gain of the seed
-module _ (g : given.Over) (c : In-Ok g) where
+module _ (g : given.Over) (c : After-unwrap-sum g) where
   abbrev start : Start g
-  start = (goal.at.In-Ok g c).Start
+  start = (goal.at.After-unwrap-sum g c).Start
 
   abbrev seed : ℕ
   seed = get_or c.args.seeds.now c.loop-k.k 0
 
-  product_is : bitted c.from-weight.result *ℤ bitted c.in-Ok.sum ≡ gain g start seed
+  product_is : bitted c.from-weight.result *ℤ bitted c.unwrap-sum.result ≡ gain g start seed
   product_is =
       let b = c.args.booking in
       let fits : SFits w32 b.weight = search rules in
       let weight_is = ap bitted (c.from-weight.ensures ∙ to_z-of_z w32 b.weight fits) ∙ bitted_is b.weight (omega (arith, c.requires.light)) in
       let S = interval_sum (F g start) seed b.from b.to in
-      let sum_is_lem = said (interval_refusal (F g start) seed b.from b.to) S c.in-Ok.sum c.in-Ok.ensures.is in
+      let sum_is_lem = said (interval_refusal (F g start) seed b.from b.to) S c.unwrap-sum.result (sym c.unwrap-sum.ensures ∙ c.interval_sum.ensures.is) in
       let few = sum_small (F g start) (g.met.F.SignFamily.lawful c.args.family.now) b c.requires.within seed in
       ap₂ ◌*ℤ◌ weight_is (ap bitted sum_is_lem ∙ bitted_is S (omega arith))
 
-  here : bitted c.from-weight.result *ℤ bitted c.in-Ok.sum ≡ get_or (gains (F g start) c.args.seeds.now c.args.booking) c.loop-k.k (pos 0)
+  here : bitted c.from-weight.result *ℤ bitted c.unwrap-sum.result ≡ get_or (gains (F g start) c.args.seeds.now c.args.booking) c.loop-k.k (pos 0)
   here = product_is ∙ sym (get_or-map (gain g start) c.args.seeds.now c.loop-k.k 0 (pos 0) c.loop-k-test.true)
 
   there : c.loop-k.k < length c.args.cells.now
@@ -72,10 +72,10 @@ pub overflow_mul-cells : goal.overflow_mul-cells
 overflow_mul-cells g c = let few = small g (start g c) (seed g c) in subst (SFits w64) (sym (product_is g c)) (small_fits _ (omega arith))
 
 pub overflow_add-cells : goal.overflow_add-cells
-overflow_add-cells g c = let w = (goal.at.overflow_add-cells g c).In-Ok in add_fits (ready g (start g w)) c.loop-k.cells c.loop-k.k _ (there g w) (here g w) c.loop-k.invariant
+overflow_add-cells g c = let w = (goal.at.overflow_add-cells g c).After-unwrap-sum in add_fits (ready g (start g w)) c.loop-k.cells c.loop-k.k _ (there g w) (here g w) c.loop-k.invariant
 
 pub loop-k-preserved : goal.loop-k-preserved
-loop-k-preserved g c = let w = (goal.at.loop-k-preserved g c).In-Ok in add_more (ready g (start g w)) c.loop-k.cells c.loop-k.k _ (there g w) (here g w) c.loop-k.invariant
+loop-k-preserved g c = let w = (goal.at.loop-k-preserved g c).After-unwrap-sum in add_more (ready g (start g w)) c.loop-k.cells c.loop-k.k _ (there g w) (here g w) c.loop-k.invariant
 
 pub returns : goal.returns
 returns g c = add_all (ready g (goal.at.returns g c).Start) c.loop-k.cells c.loop-k.k (omega (arith, c.requires.same)) c.loop-k.invariant

@@ -1,2 +1,3 @@
 pub mod Listed
 pub mod Cells
+pub mod Table

@@ -2,7 +2,7 @@
 
 #![tactic(auto)]
 
-mod checks;
+mod family;
 mod table;
 
-pub use table::Listed;
+pub use family::Listed;

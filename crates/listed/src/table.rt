@@ -1,91 +1,116 @@
-ghost use Rattle.std.specs.Prelude.{◌≡◌, ◌+◌, ◌*◌, ◌^◌, ◌<◌, ◌≤◌, false, length, is_some, slice_index};
+ghost use Rattle.std.specs.Prelude.{◌≡◌, ◌+◌, ◌*◌, ◌^◌, ◌<◌, ◌≤◌, length};
+ghost use Rattle.std.specs.Option.{option_map};
 ghost use Rattle.std.specs.Result.{result_map_both};
-ghost use Rattle.signs.specs.Faults.{answer};
-ghost use Rattle.signs.specs.Sums.{sum};
-ghost use Rattle.signs.specs.Family.{value};
-ghost use Rattle.listed.specs.Listed.{byte_sign, listed, columns_check, listed_refusal};
-ghost use Rattle.std.proofs.Common.{arith};
-ghost use Rattle.listed.specs.Cells.{listed-Lawful};
+ghost use Rattle.signs.specs.declared.reason.Reason.TheVariants.{Unbalanced};
+ghost use Rattle.signs.specs.Faults.{answer, ◌⨾◌, family_fault};
+ghost use Rattle.signs.specs.Family.{agreeing, sign_sum, width_check};
+ghost use Rattle.listed.specs.Listed.{byte_sign, listed, rows_check, bytes_check, columns_check};
 
-use crate::checks::check_table;
-use signs::{Block, Fault, Sign, SignFamily, check_block, check_seed, check_slot};
+use signs::{Fault, Layer, Reason, Sign};
 
-/// A family of width 1 to 6 whose signs stand in a table of 2 to 128 rows, a row for each seed, with a byte for each slot: 0 for plus, 1 for
-/// minus. That no two columns are unbalanced is the half law.
+// The sign that a byte of a table stands for.
+fn sign_of(byte: u8) -> Sign
+    ensures { result ≡ byte_sign byte }
+{
+    if byte == 0 { Sign::Plus } else { Sign::Minus }
+}
+
+// Refuses the first byte that is neither 0 nor 1 (3).
+fn check_bytes(bytes: &[u8]) -> Result<(), Fault>
+    ensures { result ≡ answer (bytes_check bytes.now) tt }
+{
+    match bytes.iter().position(|byte| *byte > 1) {
+        Some(place) => Err(Layer::Family.fault(Reason::SignByte, place as u64)),
+        None => Ok(()),
+    }
+}
+
+/// The signs of a family of 2^width columns, row by row, with a byte for each: 0 for plus, 1 for minus.
 #[derive(Drop)]
-pub struct Listed {
-    width: u32,
-    rows: u32,
-    table: Vec<u8>,
+pub(crate) struct Table {
+    pub(crate) width: u32,
+    pub(crate) rows: u32,
+    bytes: Vec<u8>,
     ghost wide: { (1 ≤ width) × (width ≤ 6) },
     ghost some: { (2 ≤ rows) × (rows ≤ 128) },
-    ghost size: { length table.items ≡ rows * 2 ^ width },
-    ghost balanced: { is_some (columns_check width rows table.items) ≡ false },
+    ghost size: { length bytes.items ≡ rows * 2 ^ width },
 }
 
-impl Listed {
-    /// The family of a table, or the first of its faults: the width (1), the rows (2), a byte (3), two columns (4).
-    pub fn new(width: u32, rows: u32, table: Vec<u8>) -> Result<Listed, Fault>
-        ensures { result_map_both (λ f. listed f.width f.rows f.table.items) (λ e. e) result ≡ answer (listed_refusal width rows table.items) (listed width rows table.items) }
+impl Table {
+    ghost use Rattle.listed.specs.Table.{family_of};
+
+    /// The table of those bytes, or the first of its faults: the width (1), the rows (2), a byte (3).
+    pub(crate) fn new(width: u32, rows: u32, bytes: Vec<u8>) -> Result<Table, Fault>
+        ensures { result_map_both family_of (λ e. e) result ≡ answer (width_check 1 6 width ⨾ rows_check width rows bytes.items ⨾ bytes_check bytes.items) (listed width rows bytes.items) }
     {
-        check_table(width, rows, &table)?;
-        Ok(Listed { width, rows, table })
-    }
-}
-
-// The sign that a byte of the table stands for.
-fn sign_at(table: &[u8], place: u32) -> Sign
-    requires { place < length table.now }
-    ensures { result ≡ byte_sign (slice_index table.now place) }
-{
-    if table[place as usize] == 0 {
-        Sign::Plus
-    } else {
-        Sign::Minus
-    }
-}
-
-fn value_of(byte: u8) -> i64
-    ensures { result ≡ value (byte_sign byte) }
-{
-    if byte == 0 { 1 } else { -1 }
-}
-
-// The sum of the signs of `count` bytes from `first` on.
-fn run_sum(table: &[u8], first: u32, count: u32) -> i64
-    requires { (first + count ≤ length table.now) × (length table.now < 2 ^ 32) }
-    ensures { result ≡ sum count (λ k. value (byte_sign (slice_index table.now (first + k)))) }
-{
-    let mut total = 0i64;
-    for k in 0..count {
-        total += value_of(table[(first + k) as usize]);
-    }
-    total
-}
-
-impl SignFamily for Listed {
-    ghost meaning = { λ f. listed f.width f.rows f.table.items };
-
-    ghost lawful = { λ f. listed-Lawful f.width f.rows f.table.items (omega arith) (omega arith) (omega arith) (omega arith) f.balanced };
-
-    fn width(&self) -> u32 {
-        self.width
+        if width < 1 || width > 6 {
+            return Err(Layer::Family.fault(Reason::Width, 0));
+        }
+        if rows < 2 || rows > 128 || bytes.len() != (rows as usize) << width {
+            return Err(Layer::Family.fault(Reason::Rows, 0));
+        }
+        check_bytes(&bytes)?;
+        Ok(Table { width, rows, bytes })
     }
 
-    fn seed_count(&self) -> u64 {
-        u64::from(self.rows)
+    // Where the byte of a row and a column stands; the end of a row counts as a column.
+    fn place(&self, row: u32, column: u32) -> usize
+        requires row { row < self.now.rows }
+        requires column { column ≤ 2 ^ self.now.width }
+        ensures { result ≡ row * 2 ^ self.now.width + column }
+    {
+        ((row << self.width) + column) as usize
     }
 
-    fn sign(&self, seed: u64, slot: u32) -> Result<Sign, Fault> {
-        check_seed(self.seed_count(), seed)?;
-        check_slot(self.width, slot)?;
-        Ok(sign_at(&self.table, ((seed as u32) << self.width) + slot))
+    /// The sign in a row and a column.
+    pub(crate) fn sign_at(&self, row: u32, column: u32) -> Sign
+        requires row { row < self.now.rows }
+        requires column { column < 2 ^ self.now.width }
+        ensures { result ≡ (family_of self.now).sign row column }
+    {
+        sign_of(self.bytes[self.place(row, column)])
     }
 
-    fn block_sum(&self, seed: u64, block: Block) -> Result<i64, Fault> {
-        check_seed(self.seed_count(), seed)?;
-        check_block(self.width, block)?;
-        let first = ((seed as u32) << self.width) + (block.number << block.level);
-        Ok(run_sum(&self.table, first, 1 << block.level))
+    /// The sum of the signs of `count` columns of a row, from `first` on.
+    pub(crate) fn run_sum(&self, row: u32, first: u32, count: u32) -> i64
+        requires row { row < self.now.rows }
+        requires columns { first + count ≤ 2 ^ self.now.width }
+        ensures { result ≡ sign_sum (family_of self.now) row first count }
+    {
+        let start = self.place(row, first);
+        let mut total = 0;
+        for byte in &self.bytes[start..start + count as usize] {
+            total += i64::from(sign_of(*byte));
+        }
+        total
+    }
+
+    // In how many rows two columns have equal signs.
+    fn agreeing_rows(&self, a: u32, b: u32) -> usize
+        requires a { a < 2 ^ self.now.width }
+        requires b { b < 2 ^ self.now.width }
+        ensures { result ≡ agreeing (family_of self.now) a b }
+    {
+        (0..self.rows)
+            .filter(|row| self.sign_at(*row, a) == self.sign_at(*row, b))
+            .count()
+    }
+
+    /// The first two columns that have equal signs in more or less than half of the rows.
+    pub(crate) fn first_unbalanced(&self) -> Option<(u32, u32)>
+        ensures { option_map (λ p. family_fault Unbalanced (p.0 * 64 + p.1)) result ≡ columns_check self.now.width self.now.rows self.now.bytes.items }
+    {
+        // The form is a rule of the project: nested loops over columns, left by a label with the pair found.
+        let columns = 1 << self.width;
+        'columns: {
+            for a in 0..columns {
+                for b in a + 1..columns {
+                    if 2 * self.agreeing_rows(a, b) != self.rows as usize {
+                        break 'columns Some((a, b));
+                    }
+                }
+            }
+            None
+        }
     }
 }

@@ -43,10 +43,10 @@ impl Table {
     pub(crate) fn new(width: u32, rows: u32, bytes: Vec<u8>) -> Result<Table, Fault>
         ensures { result_map_both family_of (λ e. e) result ≡ answer (width_check 1 6 width ⨾ rows_check width rows bytes.items ⨾ bytes_check bytes.items) (listed width rows bytes.items) }
     {
-        if width < 1 || width > 6 {
+        if !(1..=6).contains(&width) {
             return Err(Layer::Family.fault(Reason::Width, 0));
         }
-        if rows < 2 || rows > 128 || bytes.len() != (rows as usize) << width {
+        if !(2..=128).contains(&rows) || bytes.len() != (rows as usize) << width {
             return Err(Layer::Family.fault(Reason::Rows, 0));
         }
         check_bytes(&bytes)?;

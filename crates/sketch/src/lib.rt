@@ -62,3 +62,12 @@ pub struct Refused<S> {
     pub sketch: S,
     pub fault: Fault,
 }
+
+/// The fault alone; the sketch is let go.
+impl From<Refused<OpenSketch>> for Fault {
+    ghost from_gives = { λ refused fault. fault ≡ refused.fault };
+
+    fn from(refused: Refused<OpenSketch>) -> Fault {
+        refused.fault
+    }
+}

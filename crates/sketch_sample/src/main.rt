@@ -2,17 +2,18 @@
 
 #![tactic(auto)]
 
-use overlap::overlap;
+use overlap::{Estimate, overlap};
 use parity::Eh3;
 use signs::Fault;
-use sketch::{Booking, OpenSketch, Refused};
+use sketch::{Booking, OpenSketch, Refused, Shape};
 use std::io;
 
 const WIDTH: u32 = 4;
 
-const GROUPS: usize = 1;
-
-const COLUMNS: usize = 2;
+const SHAPE: Shape = Shape {
+    groups: 1,
+    columns: 2,
+};
 
 const SEEDS: [u64; 2] = [3, 10];
 
@@ -23,65 +24,40 @@ fn withdrawn(
     cells: &mut [i64],
     option: Booking,
 ) -> Result<OpenSketch, Fault> {
-    match sketch.hold(family, &SEEDS, cells, option) {
-        Ok(held) => match held.withdraw(family, &SEEDS, cells) {
-            Ok(sketch) => Ok(sketch),
-            Err(refused) => {
-                let Refused { sketch, fault } = refused;
-                let _ = sketch.confirm();
-                Err(fault)
-            }
-        },
-        Err(refused) => Err(refused.fault),
-    }
-}
-
-// Holds an option and confirms it.
-fn confirmed(
-    sketch: OpenSketch,
-    family: &Eh3,
-    cells: &mut [i64],
-    option: Booking,
-) -> Result<OpenSketch, Fault> {
-    match sketch.hold(family, &SEEDS, cells, option) {
-        Ok(held) => Ok(held.confirm()),
-        Err(refused) => Err(refused.fault),
+    match sketch
+        .hold(family, &SEEDS, cells, option)?
+        .withdraw(family, &SEEDS, cells)
+    {
+        Ok(sketch) => Ok(sketch),
+        Err(Refused { sketch, fault }) => {
+            let _ = sketch.confirm();
+            Err(fault)
+        }
     }
 }
 
 // A post, an option that is withdrawn, and one that is confirmed.
 fn sample(family: &Eh3, cells: &mut [i64]) -> Result<OpenSketch, Fault> {
-    let mut sketch = OpenSketch::open(family, GROUPS, COLUMNS, &SEEDS, cells)?;
-    sketch.post(
-        family,
-        &SEEDS,
-        cells,
-        Booking {
-            from: 2,
-            to: 11,
-            weight: 3,
-        },
-    )?;
-    let sketch = withdrawn(
-        sketch,
-        family,
-        cells,
-        Booking {
-            from: 5,
-            to: 6,
-            weight: 4,
-        },
-    )?;
-    confirmed(
-        sketch,
-        family,
-        cells,
-        Booking {
-            from: 12,
-            to: 14,
-            weight: -1,
-        },
-    )
+    let posted = Booking {
+        from: 2,
+        to: 11,
+        weight: 3,
+    };
+    let withdrawn_option = Booking {
+        from: 5,
+        to: 6,
+        weight: 4,
+    };
+    let confirmed_option = Booking {
+        from: 12,
+        to: 14,
+        weight: -1,
+    };
+    let mut sketch = OpenSketch::open(family, SHAPE, &SEEDS, cells)?;
+    sketch.post(family, &SEEDS, cells, posted)?;
+    let sketch = withdrawn(sketch, family, cells, withdrawn_option)?;
+    let held = sketch.hold(family, &SEEDS, cells, confirmed_option)?;
+    Ok(held.confirm())
 }
 
 fn print_refusal(rt: &impl Print, fault: Fault) -> io::Result<()> {
@@ -99,24 +75,16 @@ fn print_sketch(rt: &impl Print, sketch: &OpenSketch, cells: &[i64]) -> io::Resu
     let gross = figures.gross();
     let net = figures.net();
     print!(rt; "figures,{gross},{net}\r\n")?;
-    let mut totals = [0; GROUPS];
+    let mut totals = [0; SHAPE.groups];
     match overlap(&figures, cells, &figures, cells, &mut totals) {
-        Ok(estimate) => {
-            let middle = estimate.middle;
-            let columns = estimate.columns;
-            print!(rt; "self,{middle},{columns}\r\n")
-        }
+        Ok(Estimate { columns, middle }) => print!(rt; "self,{middle},{columns}\r\n"),
         Err(fault) => print_refusal(rt, fault),
     }
 }
 
 fn main(rt: HostRuntime) -> io::Result<()> {
-    let family = match Eh3::new(WIDTH) {
-        Ok(family) => family,
-        Err(fault) => return print_refusal(&rt, fault),
-    };
-    let mut cells = [0; GROUPS * COLUMNS];
-    match sample(&family, &mut cells) {
+    let mut cells = [0; SEEDS.len()];
+    match Eh3::new(WIDTH).and_then(|family| sample(&family, &mut cells)) {
         Ok(sketch) => print_sketch(&rt, &sketch, &cells),
         Err(fault) => print_refusal(&rt, fault),
     }

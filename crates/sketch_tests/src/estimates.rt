@@ -1,9 +1,9 @@
 //! Merging and overlap.
 
-use crate::calls::{booking, is_refused};
+use crate::calls::{booking, shape};
 use overlap::overlap;
 use parity::Bch3;
-use signs::Fault;
+use signs::{Fault, Layer, Reason};
 use sketch::{Figures, OpenSketch};
 use std::test::Fail;
 
@@ -15,7 +15,7 @@ fn three_cells(
     cells: &mut [i64],
 ) -> Result<Figures, Fault> {
     let family = Bch3::new(3)?;
-    let mut sketch = OpenSketch::open(&family, groups, columns, seeds, cells)?;
+    let mut sketch = OpenSketch::open(&family, shape(groups, columns), seeds, cells)?;
     sketch.post(&family, seeds, cells, booking(0, 6, 1))?;
     Ok(sketch.figures())
 }
@@ -53,7 +53,7 @@ fn two_sketches(rt: HostRuntime) -> Result<(), Fail> {
     let mut totals = [5; 3];
     let first = three_cells(3, 1, &[0, 2, 4], &mut cells)?;
     let family = Bch3::new(3)?;
-    let mut sketch = OpenSketch::open(&family, 3, 1, &[0, 2, 4], &mut others)?;
+    let mut sketch = OpenSketch::open(&family, shape(3, 1), &[0, 2, 4], &mut others)?;
     sketch.post(&family, &[0, 2, 4], &mut others, booking(0, 4, -2))?;
     let second = sketch.figures();
     let estimate = overlap(&first, &cells, &second, &others, &mut totals)?;
@@ -70,30 +70,21 @@ fn refused_overlaps(rt: HostRuntime) -> Result<(), Fail> {
     let tall = three_cells(3, 1, &[0, 2, 4], &mut cells)?;
     let wide = three_cells(1, 3, &[0, 2, 4], &mut cells)?;
     let mut totals = [5; 3];
-    assert!(rt;
-        is_refused(
-            overlap(&tall, &cells, &wide, &cells, &mut totals),
-            9,
-            'S',
-            0,
-        )
+    assert_eq!(rt;
+        overlap(&tall, &cells, &wide, &cells, &mut totals).err(),
+        Some(Layer::Sketch.fault(Reason::Shape, 0))
     );
-    assert!(rt; is_refused(overlap(&tall, &cells, &tall, &[], &mut totals), 10, 'S', 2));
-    assert!(rt;
-        is_refused(
-            overlap(&wide, &cells, &wide, &cells, &mut totals),
-            10,
-            'S',
-            3,
-        )
+    assert_eq!(rt;
+        overlap(&tall, &cells, &tall, &[], &mut totals).err(),
+        Some(Layer::Sketch.fault(Reason::Table, 2))
     );
-    assert!(rt;
-        is_refused(
-            overlap(&tall, &cells, &tall, &[6, -6, i64::MIN], &mut totals),
-            11,
-            'S',
-            482,
-        )
+    assert_eq!(rt;
+        overlap(&wide, &cells, &wide, &cells, &mut totals).err(),
+        Some(Layer::Sketch.fault(Reason::Table, 3))
+    );
+    assert_eq!(rt;
+        overlap(&tall, &cells, &tall, &[6, -6, i64::MIN], &mut totals).err(),
+        Some(Layer::Sketch.fault(Reason::ForeignCells, 482))
     );
     assert_eq!(rt; totals[0], 5);
     Ok(())
@@ -103,12 +94,18 @@ fn refused_overlaps(rt: HostRuntime) -> Result<(), Fail> {
 fn merging(rt: HostRuntime) -> Result<(), Fail> {
     let family = Bch3::new(3)?;
     let mut cells = [0; 3];
-    let mut sketch = OpenSketch::open(&family, 3, 1, &[0, 2, 4], &mut cells)?;
+    let mut sketch = OpenSketch::open(&family, shape(3, 1), &[0, 2, 4], &mut cells)?;
     let mut others = [0; 3];
     let other = three_cells(3, 1, &[0, 2, 4], &mut others)?;
     let turned = three_cells(1, 3, &[0, 2, 4], &mut others)?;
-    assert!(rt; is_refused(sketch.merge(&mut cells, &turned, &others), 9, 'S', 0));
-    assert!(rt; is_refused(sketch.merge(&mut cells, &other, &[6, 7, 0]), 11, 'S', 481));
+    assert_eq!(rt;
+        sketch.merge(&mut cells, &turned, &others).err(),
+        Some(Layer::Sketch.fault(Reason::Shape, 0))
+    );
+    assert_eq!(rt;
+        sketch.merge(&mut cells, &other, &[6, 7, 0]).err(),
+        Some(Layer::Sketch.fault(Reason::ForeignCells, 481))
+    );
     sketch.merge(&mut cells, &other, &others)?;
     sketch.merge(&mut cells, &other, &others)?;
     assert_eq!(rt; cells[0], 12);

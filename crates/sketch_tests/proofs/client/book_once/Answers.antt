@@ -45,12 +45,12 @@ returns g c =
     let seeds = c.args.seeds.now in
     let found = c.args.cells.now in
     let b = c.args.booking in
-    let start = begun c.args.groups c.args.columns found in
-    let refusal = open_refusal F c.args.groups c.args.columns seeds found in
+    let start = begun c.args.shape.groups c.args.shape.columns found in
+    let refusal = open_refusal F c.args.shape.groups c.args.shape.columns seeds found in
     let before = open_state c.in_ok-sketch.sketch c.open.new.cells in
     let answers = c.in_ok-sketch.ensures.opens.answers in
     let posts = c.in_ok-post.ensures in
-    cells F seeds c.args.groups c.args.columns found b c.in_ok-sketch.ensures.law before _
+    cells F seeds c.args.shape.groups c.args.shape.columns found b c.in_ok-sketch.ensures.law before _
     (accepted refusal start before (sym answers))
     (said refusal start before answers)
     (accepted (post_refusal F seeds before b) tt tt (sym posts.answers))

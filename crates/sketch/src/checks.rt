@@ -1,27 +1,10 @@
 ghost use Rattle.std.specs.Prelude.{◌≡◌, ◌^◌, ◌≤◌};
 ghost use Rattle.signs.specs.Faults.{answer};
-ghost use Rattle.model.specs.Calls.{mass, tables_check, booking_check};
-ghost use Rattle.sketch.specs.Promises.{tally_of};
+ghost use Rattle.model.specs.Calls.{mass, booking_check};
 
-use crate::Figures;
 use model::Booking;
 use signs::{Fault, Layer, Reason, SignFamily, check_interval};
-use tables::{Table, check_cells, check_length, check_limit, check_seeds};
-
-// Refuses seeds or cells that do not fit the figures, for their lengths (10), a seed (5) or a cell (11).
-pub(crate) fn check_tables<F: SignFamily>(
-    family: &F,
-    seeds: &[u64],
-    figures: &Figures,
-    cells: &[i64],
-) -> Result<(), Fault>
-    ensures { result ≡ answer (tables_check (F.meaning family.now) seeds.now (tally_of figures.now) cells.now) tt }
-{
-    check_length(seeds, figures.entries(), Table::Seeds.into())?;
-    check_length(cells, figures.entries(), Table::OwnCells.into())?;
-    check_seeds(family, seeds)?;
-    check_cells(cells, figures.gross, 0)
-}
+use tables::check_limit;
 
 // The mass of a booking.
 pub(crate) fn mass_of(booking: Booking) -> u64

@@ -7,12 +7,12 @@ ghost use Rattle.std.specs.Prelude.{◌≡◌, ◌+◌, ◌-◌, ◌*◌, ◌%�
 
 use signs::Fault;
 
-mod cells;
 mod checks;
 mod merging;
 mod opening;
 mod options;
 mod posting;
+mod seeded;
 mod tally;
 
 pub use model::{Booking, Shape};
@@ -39,6 +39,7 @@ pub struct OpenSketch {
 pub struct HeldSketch {
     figures: Figures,
     option: Booking,
+    // A flag, and no `Option` for the option: that would need an answer for a sketch under none, which no caller has.
     spent: bool,
     ghost light: { unsigned_abs option.weight ≤ 1000 },
     ghost room: { figures.gross + unsigned_abs option.weight * (option.to - option.from) ≤ 2 ^ 26 },

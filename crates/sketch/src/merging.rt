@@ -1,12 +1,24 @@
-ghost use Rattle.std.specs.Prelude.{◌≡◌};
+ghost use Rattle.std.specs.Prelude.{◌≡◌, length};
 ghost use Rattle.signs.specs.Faults.{answer};
-ghost use Rattle.model.specs.Calls.{merge_refusal};
+ghost use Rattle.model.specs.Calls.{AreWithinLimit, add_each, merge_refusal};
 ghost use Rattle.sketch.specs.Promises.{tally_of, open_state, Merges};
 
-use crate::cells::add;
 use crate::{Figures, OpenSketch};
 use signs::Fault;
 use tables::{FIRST_OTHER_CELL, Table, check_cells, check_length, check_limit, check_same_shape};
+
+// Adds each of the other cells to the cell beside it.
+fn add(cells: &mut [i64], others: &[i64])
+    requires same { length others.now ≡ length cells.old }
+    requires own { AreWithinLimit cells.old }
+    requires other { AreWithinLimit others.now }
+    ensures { cells.new ≡ add_each cells.old others.now }
+{
+    // By place: of cells that are written through a zip nothing is known afterwards.
+    for (k, other) in others.iter().enumerate() {
+        cells[k] += *other;
+    }
+}
 
 impl OpenSketch {
     // Refuses another sketch for its shape (9), the lengths of the two tables (10), a cell (11) or the gross limit (13).

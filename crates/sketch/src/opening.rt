@@ -1,28 +1,10 @@
 ghost use Rattle.std.specs.Prelude.{◌≡◌};
-ghost use Rattle.signs.specs.Faults.{answer};
-ghost use Rattle.model.specs.Calls.{open_refusal};
 ghost use Rattle.model.specs.Law.{SketchLaw};
 ghost use Rattle.sketch.specs.Promises.{Opens};
 
+use crate::seeded::Seeded;
 use crate::{Figures, OpenSketch, Shape};
 use signs::{Fault, SignFamily};
-use tables::{Table, check_length, check_seeds, check_shape};
-
-// Refuses a shape (9), tables of other lengths than it has (10), or a seed (5).
-fn check_opening<F: SignFamily>(
-    family: &F,
-    shape: Shape,
-    seeds: &[u64],
-    cells: &[i64],
-) -> Result<(), Fault>
-    ensures { result ≡ answer (open_refusal (F.meaning family.now) shape.groups shape.columns seeds.now cells.now) tt }
-{
-    check_shape(shape)?;
-    let due = shape.groups * shape.columns;
-    check_length(seeds, due, Table::Seeds.into())?;
-    check_length(cells, due, Table::OwnCells.into())?;
-    check_seeds(family, seeds)
-}
 
 impl OpenSketch {
     /// A sketch with nothing booked, over the caller's tables; every cell is set to 0.
@@ -39,7 +21,8 @@ impl OpenSketch {
         ensures opens { Opens (F.meaning family.now) shape.groups shape.columns seeds.now cells.old result cells.new }
         ensures law { SketchLaw (F.meaning family.now) }
     {
-        check_opening(family, shape, seeds, cells)?;
+        let seeded = Seeded { family, seeds };
+        seeded.check_opening(shape, cells)?;
         cells.fill(0);
         let figures = Figures {
             shape,

@@ -2,8 +2,7 @@ ghost use Rattle.std.specs.Prelude.{◌≡◌, List, ℤ};
 ghost use Rattle.model.specs.Calls.{confirmed};
 ghost use Rattle.sketch.specs.Promises.{tally_of, open_state, held_state, Releases, Withdraws};
 
-use crate::checks::check_tables;
-use crate::posting::booked;
+use crate::seeded::Seeded;
 use crate::{Figures, HeldSketch, OpenSketch, Refused};
 use model::Booking;
 use signs::{Fault, SignFamily, check_interval};
@@ -29,19 +28,18 @@ impl HeldSketch {
     // Checks the tables, and takes the option off the cells: the figures then.
     fn released<F: SignFamily>(
         &self,
-        family: &F,
-        seeds: &[u64],
+        seeded: &Seeded<F>,
         cells: &mut [i64],
     ) -> Result<Figures, Fault>
-        ensures { Releases (F.meaning family.now) seeds.now self.now.option (tally_of self.now.figures) cells.old result cells.new }
+        ensures { Releases (F.meaning seeded.now.family.now) seeded.now.seeds.now self.now.option (tally_of self.now.figures) cells.old result cells.new }
     {
-        check_tables(family, seeds, &self.figures, cells)?;
-        check_interval(family.width(), &(self.option.from..self.option.to))?;
+        seeded.check_tables(&self.figures, cells)?;
+        check_interval(seeded.family.width(), &(self.option.from..self.option.to))?;
         let opposite = Booking {
             weight: -self.option.weight,
             ..self.option
         };
-        Ok(booked(self.figures, family, seeds, cells, opposite))
+        Ok(seeded.book(self.figures, cells, opposite))
     }
 
     /// Takes the option off cells and net again; the gross gains its mass once more.
@@ -55,7 +53,8 @@ impl HeldSketch {
     ) -> Result<OpenSketch, Refused<HeldSketch>>
         ensures { Withdraws (F.meaning family.now) seeds.now self.option (held_state self cells.old) result cells.new }
     {
-        match self.released(family, seeds, cells) {
+        let seeded = Seeded { family, seeds };
+        match self.released(&seeded, cells) {
             Ok(figures) => {
                 self.spent = true;
                 Ok(OpenSketch { figures })

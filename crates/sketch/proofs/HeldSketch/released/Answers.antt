@@ -27,14 +27,14 @@ weighing b w = record { from = b.from; to = b.to; weight = w }
 
 pub returns : goal.returns
 returns g c =
-    let F = g.F.SignFamily.meaning c.args.family.now in
-    let seeds = c.args.seeds.now in
+    let F = g.F.SignFamily.meaning c.args.seeded.now.family.now in
+    let seeds = c.args.seeded.now.seeds.now in
     let cells = c.args.cells.now in
     let t = tally_of c.args.self.now.figures in
     let b = c.args.self.now.option in
     let taken = weighing b (minus b.weight) in
-    let figures : tally_of c.booked.result ≡ gained_tally t (mass taken) (signed_mass taken) = c.booked.ensures.figures in
-    let table : c.booked.new.cells ≡ add_each cells (gains F seeds taken) = c.booked.ensures.table in
+    let figures : tally_of c.book.result ≡ gained_tally t (mass taken) (signed_mass taken) = c.book.ensures.figures in
+    let table : c.book.new.cells ≡ add_each cells (gains F seeds taken) = c.book.ensures.table in
     let off = ap (weighing b) (negated b.weight c.args.self.now.light) in
     let same : mass (opposite b) ≡ mass b = ap (λ n. n * slots b) (abs_neg b.weight) in
     let tables = accepted (tables_check F seeds t cells) tt tt (sym c.in_ok-check_tables.ensures) in

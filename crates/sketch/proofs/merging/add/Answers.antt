@@ -1,7 +1,7 @@
 use Rattle.std.proofs.Common.{get_or, pos, refl, arith}
 use Rattle.sketch.proofs.Adding.{Addable, add_fits, add_more, add_all}
-use Rattle.sketch.proofs.cells.add.Goals as goal
-use Rattle.sketch.proofs.cells.add.Goals.{Start}
+use Rattle.sketch.proofs.merging.add.Goals as goal
+use Rattle.sketch.proofs.merging.add.Goals.{Start}
 
 ready : (c : Start) → Addable c.args.cells.now c.args.others.now
 ready c = record { same = c.requires.same; own = c.requires.own; few = λ k h. omega (arith, c.requires.other k h) }

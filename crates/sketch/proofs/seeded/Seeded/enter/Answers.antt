@@ -7,33 +7,33 @@ use Rattle.signs.proofs.Answers.{accepted, refused, there_interval}
 use Rattle.model.specs.Calls.{mass, signed_mass, gains, add_each, gained_tally, tables_check, booking_check}
 use Rattle.model.proofs.Checks.{booking_passed}
 use Rattle.sketch.specs.Promises.{tally_of}
-use Rattle.sketch.proofs.posting.enter.Given as given
-use Rattle.sketch.proofs.posting.enter.Goals as goal
-use Rattle.sketch.proofs.posting.enter.Goals.{In_ok-check_tables}
+use Rattle.sketch.proofs.seeded.Seeded.enter.Given as given
+use Rattle.sketch.proofs.seeded.Seeded.enter.Goals as goal
+use Rattle.sketch.proofs.seeded.Seeded.enter.Goals.{In_ok-check_tables}
 
-free : (g : given.Over) (c : In_ok-check_tables g) → tables_check (g.F.SignFamily.meaning c.args.family.now) c.args.seeds.now (tally_of c.args.figures) c.args.cells.now ≡ None
-free g c = accepted (tables_check (g.F.SignFamily.meaning c.args.family.now) c.args.seeds.now (tally_of c.args.figures) c.args.cells.now) tt tt (sym c.in_ok-check_tables.ensures)
+free : (g : given.Over) (c : In_ok-check_tables g) → tables_check (g.F.SignFamily.meaning c.args.self.now.family.now) c.args.self.now.seeds.now (tally_of c.args.figures) c.args.cells.now ≡ None
+free g c = accepted (tables_check (g.F.SignFamily.meaning c.args.self.now.family.now) c.args.self.now.seeds.now (tally_of c.args.figures) c.args.cells.now) tt tt (sym c.in_ok-check_tables.ensures)
 
 pub returns-in_err-check_booking : goal.returns-in_err-check_booking
 returns-in_err-check_booking g c =
-    let F = g.F.SignFamily.meaning c.args.family.now in
+    let F = g.F.SignFamily.meaning c.args.self.now.family.now in
     let t = tally_of c.args.figures in
     let b = c.args.booking in
     let cells = c.args.cells.now in
     let p = err_from_is_err_and c.from_residual-in_err-check_booking.result c.from_residual-in_err-check_booking.ensures.1 in
     let fault = c.in_err-check_booking.field-0.0 in
-    let refusal : (tables_check F c.args.seeds.now t cells ⨾ booking_check F c.args.times t.gross b) ≡ Some fault =
+    let refusal : (tables_check F c.args.self.now.seeds.now t cells ⨾ booking_check F c.args.times t.gross b) ≡ Some fault =
     ap (λ r. r ⨾ booking_check F c.args.times t.gross b) (free g (goal.at.returns-in_err-check_booking g c).In_ok-check_tables) ∙ refused (booking_check F c.args.times t.gross b) tt fault c.in_err-check_booking.ensures in
     record {
       answers = ap (result_map_both tally_of (λ f. f)) p.1 ∙ ap Err p.2 ∙ sym (ap (λ r. answer r (gained_tally t (mass b) (signed_mass b))) refusal);
-      table = sym (ap (λ r. unless r cells (add_each cells (gains F c.args.seeds.now b))) refusal);
+      table = sym (ap (λ r. unless r cells (add_each cells (gains F c.args.self.now.seeds.now b))) refusal);
     }
 
-pub booked-requires : goal.booked-requires
-booked-requires g c =
-    let F = g.F.SignFamily.meaning c.args.family.now in
+pub book-requires : goal.book-requires
+book-requires g c =
+    let F = g.F.SignFamily.meaning c.args.self.now.family.now in
     let b = c.args.booking in
-    let tables = free g (goal.at.booked-requires g c).In_ok-check_tables in
+    let tables = free g (goal.at.book-requires g c).In_ok-check_tables in
     let fine = booking_passed F c.args.times c.args.figures.gross b (accepted (booking_check F c.args.times c.args.figures.gross b) tt tt (sym c.in_ok-check_booking.ensures)) in
     let once : 1 * mass b ≤ c.args.times * mass b = mul-le 1 (mass b) c.args.times (mass b) c.requires.0 (omega arith) in
     let room = fine.room in

@@ -9,9 +9,9 @@ use Rattle.model.specs.declared.Booking.{Booking}
 use Rattle.model.specs.Calls.{slots, gains}
 use Rattle.model.proofs.Ring.{abs_mul}
 use Rattle.sketch.proofs.Adding.{bitted, small_fits, bitted_is, Addable, add_fits, add_more, add_all}
-use Rattle.sketch.proofs.cells.book.Given as given
-use Rattle.sketch.proofs.cells.book.Goals as goal
-use Rattle.sketch.proofs.cells.book.Goals.{Start, After-unwrap-sum}
+use Rattle.sketch.proofs.seeded.Seeded.add_gains.Given as given
+use Rattle.sketch.proofs.seeded.Seeded.add_gains.Goals as goal
+use Rattle.sketch.proofs.seeded.Seeded.add_gains.Goals.{Start, After-unwrap-sum}
 
 -- an interval sum is at most 2 ^ 24 in size, and a gain at most 1000 times that
 
@@ -27,21 +27,21 @@ gain_small F lawful b within light seed =
 
 module _ (g : given.Over) (c : Start g) where
   abbrev F : Meaning
-  F = g.F.SignFamily.meaning c.args.family.now
+  F = g.F.SignFamily.meaning c.args.self.now.family.now
 
   abbrev gain : ℕ → ℤ
   gain seed = c.args.booking.weight *ℤ interval_sum F seed c.args.booking.from c.args.booking.to
 
   small : (seed : ℕ) → nat_abs (gain seed) ≤ 1000 * 2 ^ 24
-  small = gain_small F (g.met.F.SignFamily.lawful c.args.family.now) c.args.booking c.requires.within c.requires.light
+  small = gain_small F (g.met.F.SignFamily.lawful c.args.self.now.family.now) c.args.booking c.requires.within c.requires.light
 
-  ready : Addable c.args.cells.now (gains F c.args.seeds.now c.args.booking)
+  ready : Addable c.args.cells.now (gains F c.args.self.now.seeds.now c.args.booking)
   ready = record {
-    same = length-map c.args.seeds.now gain ∙ c.requires.same;
+    same = length-map c.args.self.now.seeds.now gain ∙ c.requires.same;
     own = c.requires.own;
     few = λ k h.
-        let there : k < length c.args.seeds.now = omega (arith, length-map c.args.seeds.now gain) in
-        subst (λ z. nat_abs z ≤ 2 ^ 34) (sym (get_or-map gain c.args.seeds.now k 0 (pos 0) there)) (omega (arith, small (get_or c.args.seeds.now k 0)));
+        let there : k < length c.args.self.now.seeds.now = omega (arith, length-map c.args.self.now.seeds.now gain) in
+        subst (λ z. nat_abs z ≤ 2 ^ 34) (sym (get_or-map gain c.args.self.now.seeds.now k 0 (pos 0) there)) (omega (arith, small (get_or c.args.self.now.seeds.now k 0)));
   }
 
 -- the product that code takes is the gain of the seed
@@ -50,7 +50,7 @@ module _ (g : given.Over) (c : After-unwrap-sum g) where
   start = (goal.at.After-unwrap-sum g c).Start
 
   abbrev seed : ℕ
-  seed = get_or c.args.seeds.now c.loop-k.k 0
+  seed = get_or c.args.self.now.seeds.now c.loop-k.k 0
 
   product_is : bitted c.from-weight.result *ℤ bitted c.unwrap-sum.result ≡ gain g start seed
   product_is =
@@ -59,11 +59,11 @@ module _ (g : given.Over) (c : After-unwrap-sum g) where
       let weight_is = ap bitted (c.from-weight.ensures ∙ to_z-of_z w32 b.weight fits) ∙ bitted_is b.weight (omega (arith, c.requires.light)) in
       let S = interval_sum (F g start) seed b.from b.to in
       let sum_is_lem = said (interval_refusal (F g start) seed b.from b.to) S c.unwrap-sum.result (sym c.unwrap-sum.ensures ∙ c.interval_sum.ensures.is) in
-      let few = sum_small (F g start) (g.met.F.SignFamily.lawful c.args.family.now) b c.requires.within seed in
+      let few = sum_small (F g start) (g.met.F.SignFamily.lawful c.args.self.now.family.now) b c.requires.within seed in
       ap₂ ◌*ℤ◌ weight_is (ap bitted sum_is_lem ∙ bitted_is S (omega arith))
 
-  here : bitted c.from-weight.result *ℤ bitted c.unwrap-sum.result ≡ get_or (gains (F g start) c.args.seeds.now c.args.booking) c.loop-k.k (pos 0)
-  here = product_is ∙ sym (get_or-map (gain g start) c.args.seeds.now c.loop-k.k 0 (pos 0) c.loop-k-test.true)
+  here : bitted c.from-weight.result *ℤ bitted c.unwrap-sum.result ≡ get_or (gains (F g start) c.args.self.now.seeds.now c.args.booking) c.loop-k.k (pos 0)
+  here = product_is ∙ sym (get_or-map (gain g start) c.args.self.now.seeds.now c.loop-k.k 0 (pos 0) c.loop-k-test.true)
 
   there : c.loop-k.k < length c.args.cells.now
   there = omega (arith, c.requires.same, c.loop-k-test.true)

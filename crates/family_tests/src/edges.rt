@@ -5,12 +5,12 @@ use parity::{Bch3, Eh3};
 use signs::{Block, Fault, Layer, Offset, Reason, Sign, SignFamily, interval_sum};
 use std::test::Fail;
 
-// What the family layer answers for a reason, with the place of the fault.
+// A refusal by the family layer.
 fn fault(reason: Reason, place: u64) -> Option<Fault> {
     Some(Layer::Family.fault(reason, place))
 }
 
-// The same at place 0, or no refusal at all.
+// The refusal for a reason at place 0, or none.
 fn refusal(reason: Option<Reason>) -> Option<Fault> {
     fault(reason?, 0)
 }
@@ -193,8 +193,8 @@ fn largest_table(rt: HostRuntime) -> Result<(), Fail> {
     let family = Listed::new(6, 128, bch3_table(&rt, 128)?)?;
     assert_eq!(rt; family.seed_count(), 128);
     assert_eq!(rt; interval_sum(&family, 1, 0..64)?, -64);
-    assert_eq!(rt; family.sign(128, 63).err(), refusal(Some(Reason::Seed)));
+    assert_eq!(rt; family.sign(128, 63).err(), fault(Reason::Seed, 0));
     let too_large = Listed::new(6, 129, bch3_table(&rt, 129)?);
-    assert_eq!(rt; too_large.err(), refusal(Some(Reason::Rows)));
+    assert_eq!(rt; too_large.err(), fault(Reason::Rows, 0));
     Ok(())
 }

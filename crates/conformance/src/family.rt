@@ -1,143 +1,111 @@
-use crate::words::{bytes_of, u32_at};
+use crate::questions::{Answer, Question};
+use crate::words::{LineError, bytes_of};
 use listed::Listed;
 use parity::{Bch3, Eh3};
-use signs::{Fault, Offset, Sign, SignFamily, interval_sum};
-use std::alloc::{AllocError, Global};
+use signs::{Block, Fault, Offset, Sign, SignFamily};
+use std::alloc::Global;
 
-/// A family of any kind, under no, one or two offset layers.
+/// A family of any kind.
 #[derive(Drop)]
-pub(crate) enum Family {
+pub(crate) enum Kind {
     Bch3(Bch3),
-    Bch3Once(Offset<Bch3>),
-    Bch3Twice(Offset<Offset<Bch3>>),
     Eh3(Eh3),
-    Eh3Once(Offset<Eh3>),
-    Eh3Twice(Offset<Offset<Eh3>>),
     Listed(Listed),
-    ListedOnce(Offset<Listed>),
-    ListedTwice(Offset<Offset<Listed>>),
 }
 
-// The same question to whichever family it is.
-macro_rules! ask {
-    ($family:expr, $f:ident => $question:expr) => {
-        match $family {
-            Family::Bch3($f) => $question,
-            Family::Bch3Once($f) => $question,
-            Family::Bch3Twice($f) => $question,
-            Family::Eh3($f) => $question,
-            Family::Eh3Once($f) => $question,
-            Family::Eh3Twice($f) => $question,
-            Family::Listed($f) => $question,
-            Family::ListedOnce($f) => $question,
-            Family::ListedTwice($f) => $question,
+impl Kind {
+    // The family that words name: `bch3 WIDTH`, `eh3 WIDTH` or `listed WIDTH ROWS BYTES`.
+    fn from_words(alloc: Global, words: &[&str]) -> Result<Kind, LineError> {
+        match words {
+            ["bch3", width] => Ok(Kind::Bch3(Bch3::new(width.parse()?)?)),
+            ["eh3", width] => Ok(Kind::Eh3(Eh3::new(width.parse()?)?)),
+            ["listed", width, rows, bytes] => {
+                let (width, rows) = (width.parse()?, rows.parse()?);
+                Ok(Kind::Listed(Listed::new(width, rows, bytes_of(alloc, bytes)?)?))
+            }
+            _ => Err(LineError::Unknown),
         }
-    };
+    }
+}
+
+impl SignFamily for Kind {
+    ghost use Rattle.conformance.specs.declared.family.Kind.TheVariants.{Bch3, Eh3, Listed};
+    ghost use Rattle.parity.specs.contracts.bch3.Bch3SignFamily.TheImpl.Laws as bch3;
+    ghost use Rattle.parity.specs.contracts.eh3.Eh3SignFamily.TheImpl.Laws as eh3;
+    ghost use Rattle.listed.specs.contracts.table.ListedSignFamily.TheImpl.Laws as listed;
+
+    ghost meaning = { elim [ Bch3 f ↦ ⟦<Bch3 as SignFamily>⟧.meaning f | Eh3 f ↦ ⟦<Eh3 as SignFamily>⟧.meaning f | Listed f ↦ ⟦<Listed as SignFamily>⟧.meaning f ] };
+
+    ghost lawful = { elim [ Bch3 f ↦ bch3.lawful-law f | Eh3 f ↦ eh3.lawful-law f | Listed f ↦ listed.lawful-law f ] };
+
+    fn width(&self) -> u32 {
+        match self {
+            Kind::Bch3(family) => family.width(),
+            Kind::Eh3(family) => family.width(),
+            Kind::Listed(family) => family.width(),
+        }
+    }
+
+    fn seed_count(&self) -> u64 {
+        match self {
+            Kind::Bch3(family) => family.seed_count(),
+            Kind::Eh3(family) => family.seed_count(),
+            Kind::Listed(family) => family.seed_count(),
+        }
+    }
+
+    fn sign(&self, seed: u64, slot: u32) -> Result<Sign, Fault> {
+        match self {
+            Kind::Bch3(family) => family.sign(seed, slot),
+            Kind::Eh3(family) => family.sign(seed, slot),
+            Kind::Listed(family) => family.sign(seed, slot),
+        }
+    }
+
+    fn block_sum(&self, seed: u64, block: Block) -> Result<i64, Fault> {
+        match self {
+            Kind::Bch3(family) => family.block_sum(seed, block),
+            Kind::Eh3(family) => family.block_sum(seed, block),
+            Kind::Listed(family) => family.block_sum(seed, block),
+        }
+    }
+}
+
+/// A family of any kind under no, one or two offset layers.
+#[derive(Drop)]
+pub(crate) enum Family {
+    Plain(Kind),
+    Once(Offset<Kind>),
+    Twice(Offset<Offset<Kind>>),
 }
 
 impl Family {
-    pub(crate) fn width(&self) -> u32 {
-        ask!(self, f => f.width())
+    /// The family that words name: those of a kind, and then `offset NUMBER` for each layer. Words that name none are unknown, whether or not
+    /// the kind is refused.
+    pub(crate) fn from_words(alloc: Global, words: &[&str]) -> Result<Family, LineError> {
+        let cut = words.iter().position(|word| *word == "offset");
+        let (kind, layers) = words.split_at(cut.unwrap_or(words.len()));
+        match layers {
+            [] => Ok(Family::Plain(Kind::from_words(alloc, kind)?)),
+            ["offset", first] => {
+                let first = first.parse()?;
+                Ok(Family::Once(Offset::new(Kind::from_words(alloc, kind)?, first)))
+            }
+            ["offset", first, "offset", second] => {
+                let (first, second) = (first.parse()?, second.parse()?);
+                let once = Offset::new(Kind::from_words(alloc, kind)?, first);
+                Ok(Family::Twice(Offset::new(once, second)))
+            }
+            _ => Err(LineError::Unknown),
+        }
     }
 
-    pub(crate) fn seed_count(&self) -> u64 {
-        ask!(self, f => f.seed_count())
-    }
-
-    pub(crate) fn sign(&self, seed: u64, slot: u32) -> Result<Sign, Fault> {
-        ask!(self, f => f.sign(seed, slot))
-    }
-
-    pub(crate) fn block_sum(&self, seed: u64, level: u32, number: u32) -> Result<i64, Fault> {
-        ask!(self, f => f.block_sum(seed, level, number))
-    }
-
-    pub(crate) fn interval_sum(&self, seed: u64, a: u32, b: u32) -> Result<i64, Fault> {
-        ask!(self, f => interval_sum(f, seed, a, b))
-    }
-
-    /// One offset layer more, of at most two.
-    fn moved(self, offset: u32) -> Family {
+    /// What the family answers.
+    pub(crate) fn answer(&self, question: Question) -> Result<Answer, Fault> {
         match self {
-            Family::Bch3(f) => Family::Bch3Once(Offset::new(f, offset)),
-            Family::Bch3Once(f) => Family::Bch3Twice(Offset::new(f, offset)),
-            Family::Eh3(f) => Family::Eh3Once(Offset::new(f, offset)),
-            Family::Eh3Once(f) => Family::Eh3Twice(Offset::new(f, offset)),
-            Family::Listed(f) => Family::ListedOnce(Offset::new(f, offset)),
-            Family::ListedOnce(f) => Family::ListedTwice(Offset::new(f, offset)),
-            twice => twice,
+            Family::Plain(family) => question.ask(family),
+            Family::Once(family) => question.ask(family),
+            Family::Twice(family) => question.ask(family),
         }
-    }
-}
-
-// The family that the words after `family` name, and how many of them name it.
-fn named(
-    heap: Global,
-    words: &[&str],
-) -> Result<Option<(Result<Family, Fault>, usize)>, AllocError> {
-    let (Some(kind), Some(width)) = (words.get(1).copied(), u32_at(words, 2)) else {
-        return Ok(None);
-    };
-    if kind == "bch3" {
-        return Ok(Some((made_bch3(width), 3)));
-    }
-    if kind == "eh3" {
-        return Ok(Some((made_eh3(width), 3)));
-    }
-    let (Some(rows), Some(hex)) = (u32_at(words, 3), words.get(4).copied()) else {
-        return Ok(None);
-    };
-    if kind != "listed" {
-        return Ok(None);
-    }
-    match bytes_of(heap, hex)? {
-        Some(table) => Ok(Some((made_listed(width, rows, table), 5))),
-        None => Ok(None),
-    }
-}
-
-fn made_bch3(width: u32) -> Result<Family, Fault> {
-    Ok(Family::Bch3(Bch3::new(width)?))
-}
-
-fn made_eh3(width: u32) -> Result<Family, Fault> {
-    Ok(Family::Eh3(Eh3::new(width)?))
-}
-
-fn made_listed(width: u32, rows: u32, table: Vec<u8>) -> Result<Family, Fault> {
-    Ok(Family::Listed(Listed::new(width, rows, table)?))
-}
-
-// One `offset N` after another, from word `k` to the end.
-fn layered(
-    mut family: Result<Family, Fault>,
-    words: &[&str],
-    mut k: usize,
-) -> Option<Result<Family, Fault>> {
-    for _ in 0..2 {
-        if k == words.len() {
-            break;
-        }
-        if words.get(k).copied()? != "offset" {
-            return None;
-        }
-        let offset = u32_at(words, k.saturating_add(1))?;
-        family = match family {
-            Ok(f) => Ok(f.moved(offset)),
-            Err(fault) => Err(fault),
-        };
-        k = k.saturating_add(2);
-    }
-    if k == words.len() { Some(family) } else { None }
-}
-
-/// The family that a line names: None where it names none.
-pub(crate) fn read(
-    heap: Global,
-    words: &[&str],
-) -> Result<Option<Result<Family, Fault>>, AllocError> {
-    match named(heap, words)? {
-        Some((family, k)) => Ok(layered(family, words, k)),
-        None => Ok(None),
     }
 }

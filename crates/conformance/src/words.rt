@@ -1,15 +1,51 @@
 ghost use Rattle.std.specs.Prelude.{◌<◌, IfSome};
 
+use signs::Fault;
 use std::alloc::{AllocError, Global};
+use std::error::Error;
+use std::fmt;
+use std::num::ParseIntError;
 
-pub(crate) fn u32_at(words: &[&str], k: usize) -> Option<u32> {
-    words.get(k).copied()?.parse::<u32>().ok()
+/// Why a line is not answered `ok`.
+#[derive(Debug, Drop)]
+pub(crate) enum LineError {
+    /// It names no family and asks nothing, or there is no family yet.
+    Unknown,
+    Refused(Fault),
+    OutOfMemory(AllocError),
 }
 
-pub(crate) fn u64_at(words: &[&str], k: usize) -> Option<u64> {
-    words.get(k).copied()?.parse::<u64>().ok()
+impl From<ParseIntError> for LineError {
+    fn from(_error: ParseIntError) -> LineError {
+        LineError::Unknown
+    }
 }
 
+impl From<Fault> for LineError {
+    fn from(fault: Fault) -> LineError {
+        LineError::Refused(fault)
+    }
+}
+
+impl From<AllocError> for LineError {
+    fn from(error: AllocError) -> LineError {
+        LineError::OutOfMemory(error)
+    }
+}
+
+impl fmt::Display for LineError {
+    fn fmt<W: fmt::Write>(&self, f: &mut fmt::Formatter<W>) -> fmt::Result {
+        match self {
+            LineError::Unknown => write!(f, "what"),
+            LineError::Refused(fault) => write!(f, "{fault}"),
+            LineError::OutOfMemory(error) => write!(f, "{error}"),
+        }
+    }
+}
+
+impl Error for LineError {}
+
+// By hand, since `char::to_digit` takes capital letters too.
 fn digit(byte: u8) -> Option<u8>
     ensures { IfSome result (λ d. d < 16) }
 {
@@ -20,23 +56,21 @@ fn digit(byte: u8) -> Option<u8>
     }
 }
 
+// The byte that two digits stand for.
+fn byte_of(digits: &[u8]) -> Option<u8> {
+    match *digits {
+        [high, low] => Some(digit(high)? * 16 + digit(low)?),
+        _ => None,
+    }
+}
+
 /// The bytes of a word of hexadecimal digits, two to a byte; `-` has none.
-pub(crate) fn bytes_of(heap: Global, word: &str) -> Result<Option<Vec<u8>>, AllocError> {
-    let mut bytes = Vec::new(heap);
+pub(crate) fn bytes_of(alloc: Global, word: &str) -> Result<Vec<u8>, LineError> {
     if word == "-" {
-        return Ok(Some(bytes));
+        return Ok(Vec::new(alloc));
     }
-    if word.len() % 2 != 0 {
-        return Ok(None);
-    }
-    for pair in word.as_bytes().chunks(2) {
-        let [high, low] = pair else {
-            return Ok(None);
-        };
-        let (Some(high), Some(low)) = (digit(*high), digit(*low)) else {
-            return Ok(None);
-        };
-        bytes.push(high * 16 + low)?;
-    }
-    Ok(Some(bytes))
+    word.as_bytes()
+        .chunks(2)
+        .map(|digits| byte_of(digits).ok_or(LineError::Unknown))
+        .try_collect(alloc)
 }

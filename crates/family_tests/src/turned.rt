@@ -2,7 +2,7 @@ ghost use Rattle.std.specs.Prelude.{◌≡◌};
 ghost use Rattle.family_tests.specs.Turned.{turn, turned};
 ghost use Rattle.family_tests.specs.Turns.{turned-Lawful};
 
-use signs::{Fault, Sign, SignFamily};
+use signs::{Block, Fault, Sign, SignFamily};
 
 /// The family below with every sign turned.
 #[derive(Drop)]
@@ -41,12 +41,11 @@ impl<F: SignFamily> SignFamily for Turned<F> {
     }
 
     fn sign(&self, seed: u64, slot: u32) -> Result<Sign, Fault> {
-        let sign = self.below.sign(seed, slot)?;
-        Ok(opposite(sign))
+        self.below.sign(seed, slot).map(opposite)
     }
 
-    fn block_sum(&self, seed: u64, level: u32, number: u32) -> Result<i64, Fault> {
-        let sum = self.below.block_sum(seed, level, number)?;
+    fn block_sum(&self, seed: u64, block: Block) -> Result<i64, Fault> {
+        let sum = self.below.block_sum(seed, block)?;
         Ok(-sum)
     }
 }

@@ -32,7 +32,7 @@ impl SignFamily for Kind {
     ghost use Rattle.conformance.specs.declared.family.Kind.TheVariants.{Bch3, Eh3, Listed};
     ghost use Rattle.parity.specs.contracts.bch3.Bch3SignFamily.TheImpl.Laws as bch3;
     ghost use Rattle.parity.specs.contracts.eh3.Eh3SignFamily.TheImpl.Laws as eh3;
-    ghost use Rattle.listed.specs.contracts.table.ListedSignFamily.TheImpl.Laws as listed;
+    ghost use Rattle.listed.specs.contracts.family.ListedSignFamily.TheImpl.Laws as listed;
 
     ghost meaning = { elim [ Bch3 f ↦ ⟦<Bch3 as SignFamily>⟧.meaning f | Eh3 f ↦ ⟦<Eh3 as SignFamily>⟧.meaning f | Listed f ↦ ⟦<Listed as SignFamily>⟧.meaning f ] };
 

@@ -5,7 +5,7 @@ use parity::{Bch3, Eh3};
 use signs::{Block, Fault, Offset, Sign, SignFamily};
 use std::alloc::Global;
 
-/// A family of any kind.
+/// A family of any kind. An enum, since a boxed family that is made here could not be handed out.
 #[derive(Drop)]
 pub(crate) enum Kind {
     Bch3(Bch3),

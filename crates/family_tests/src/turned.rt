@@ -18,6 +18,7 @@ impl<F> Turned<F> {
     }
 }
 
+// No `Neg`, which only the crate of `Sign` could implement.
 fn opposite(sign: Sign) -> Sign
     ensures { result ≡ turn sign }
 {

@@ -44,6 +44,7 @@ fn closed_sum(seed: u64, block: Block) -> i64
     )
 }
 
+// Like EH3's impl but for sign and rule: a trait over both would have more members than the lines that it saves.
 impl SignFamily for Bch3 {
     ghost meaning = { λ f. bch3 f.width };
 

@@ -83,6 +83,7 @@ fn closed_sum(seed: u64, block: Block) -> i64
     even_sum(seed, half, 2 * number) + even_sum(seed, half, 2 * number + 1)
 }
 
+// Like BCH3's impl but for sign and rule: a trait over both would have more members than the lines that it saves.
 impl SignFamily for Eh3 {
     ghost meaning = { λ f. eh3 f.width };
 

@@ -18,7 +18,8 @@ fn level_at(at: u32, end: u32) -> u32
     at.trailing_zeros().min(31 - (end - at).leading_zeros())
 }
 
-// The sum of the signs of the slots, block by block. At most two blocks for each bit of the width are enough.
+// The sum of the signs of the slots, block by block. The turns are counted, since it is promised that two blocks for each bit of the width are
+// enough.
 fn sum_of_blocks<F: SignFamily>(
     family: &F,
     width: u32,

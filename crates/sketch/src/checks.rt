@@ -14,7 +14,8 @@ pub(crate) fn mass_of(booking: Booking) -> u64
     u64::from(booking.weight.unsigned_abs()) * u64::from(booking.to - booking.from)
 }
 
-// Refuses a booking for its weight (12), its interval (8), or a gross that has no room for `times` its mass (13).
+// Refuses a booking for its weight (12), its interval (8), or a gross that has no room for `times` its mass (13): a factor, and no choice of
+// the call.
 pub(crate) fn check_booking<F: SignFamily>(
     family: &F,
     times: u64,

@@ -60,6 +60,7 @@ fn sample(family: &Eh3, cells: &mut [i64]) -> Result<OpenSketch, Fault> {
     Ok(held.confirm())
 }
 
+// With commas, as the other lines have them; a fault's own text has spaces.
 fn print_refusal(rt: &impl Print, fault: Fault) -> io::Result<()> {
     let number = fault.number();
     let letter = fault.letter();

@@ -1,4 +1,4 @@
-//! A family that is written outside of the part, and the tests of the families at their edges.
+//! A family that is written outside of the part, what a caller knows of two reasons, and the tests of the families at their edges.
 
 #![tactic(auto)]
 
@@ -6,6 +6,8 @@
 mod edges;
 #[cfg(test)]
 mod layers;
+mod reasons;
 mod turned;
 
+pub use reasons::is_same;
 pub use turned::Turned;

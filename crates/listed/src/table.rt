@@ -6,7 +6,7 @@ ghost use Rattle.signs.specs.Faults.{answer, ◌⨾◌, family_fault};
 ghost use Rattle.signs.specs.Family.{agreeing, sign_sum, width_check};
 ghost use Rattle.listed.specs.Listed.{byte_sign, listed, rows_check, bytes_check, columns_check};
 
-use signs::{Fault, Layer, Reason, Sign};
+use signs::{Fault, Layer, Reason, Sign, check_width};
 
 // The sign that a byte of a table stands for.
 fn sign_of(byte: u8) -> Sign
@@ -43,9 +43,7 @@ impl Table {
     pub(crate) fn new(width: u32, rows: u32, bytes: Vec<u8>) -> Result<Table, Fault>
         ensures { result_map_both family_of (λ e. e) result ≡ answer (width_check 1 6 width ⨾ rows_check width rows bytes.items ⨾ bytes_check bytes.items) (listed width rows bytes.items) }
     {
-        if !(1..=6).contains(&width) {
-            return Err(Layer::Family.fault(Reason::Width, 0));
-        }
+        check_width(1, 6, width)?;
         if !(2..=128).contains(&rows) || bytes.len() != (rows as usize) << width {
             return Err(Layer::Family.fault(Reason::Rows, 0));
         }

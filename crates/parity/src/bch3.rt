@@ -7,7 +7,7 @@ ghost use Rattle.std.proofs.Common.{arith};
 ghost use Rattle.parity.specs.Half.{bch3-Lawful};
 
 use crate::bits::{bch3_ones, sign_by, signed};
-use signs::{Block, Fault, Layer, Reason, Sign, SignFamily, check_block, check_seed, check_slot};
+use signs::{Block, Fault, Sign, SignFamily, check_block, check_seed, check_slot, check_width};
 
 /// BCH3, of width 1 to 24, with 2^(width + 1) seeds. Plus where the seed's lowest bit and the bits that its others share with the slot hold an
 /// even number of ones together.
@@ -22,9 +22,7 @@ impl Bch3 {
     pub fn new(width: u32) -> Result<Bch3, Fault>
         ensures { result_map_both (λ f. bch3 f.width) (λ e. e) result ≡ answer (width_check 1 24 width) (bch3 width) }
     {
-        if !(1..=24).contains(&width) {
-            return Err(Layer::Family.fault(Reason::Width, 0));
-        }
+        check_width(1, 24, width)?;
         Ok(Bch3 { width })
     }
 }

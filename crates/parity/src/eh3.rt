@@ -7,7 +7,9 @@ ghost use Rattle.std.proofs.Common.{arith};
 ghost use Rattle.parity.specs.Half.{eh3-Lawful};
 
 use crate::bits::{bch3_ones, sign_by, signed};
-use signs::{Block, Fault, Layer, Reason, Sign, SignFamily, check_block, check_seed, check_slot};
+use signs::{
+    Block, Fault, Layer, Reason, Sign, SignFamily, check_block, check_seed, check_slot, check_width,
+};
 
 /// EH3, of even width 2 to 24, with BCH3's seeds. It turns BCH3's sign once for each pair of the slot's bits, 2k and 2k + 1, that holds a one.
 #[derive(Clone, Copy)]
@@ -22,7 +24,8 @@ impl Eh3 {
     pub fn new(width: u32) -> Result<Eh3, Fault>
         ensures { result_map_both (λ f. eh3 f.width) (λ e. e) result ≡ answer (eh3_width_check width) (eh3 width) }
     {
-        if !(2..=24).contains(&width) || width % 2 != 0 {
+        check_width(2, 24, width)?;
+        if width % 2 != 0 {
             return Err(Layer::Family.fault(Reason::Width, 0));
         }
         Ok(Eh3 { width })

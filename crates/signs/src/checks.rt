@@ -1,6 +1,6 @@
 ghost use Rattle.std.specs.Prelude.{◌≡◌, ◌^◌, nat_lt};
 ghost use Rattle.signs.specs.Faults.{answer};
-ghost use Rattle.signs.specs.Family.{seed_check, slot_check, block_check, interval_check};
+ghost use Rattle.signs.specs.Family.{width_check, seed_check, slot_check, block_check, interval_check};
 
 use crate::family::Block;
 use crate::faults::{Fault, Layer};
@@ -12,6 +12,16 @@ fn is_below_power(x: u32, k: u32) -> bool
     ensures { result ≡ nat_lt x (2 ^ k) }
 {
     k >= 32 || x < 1 << k
+}
+
+/// Refuses a width that a kind of family does not have, outside of `least` to `most` (1).
+pub fn check_width(least: u32, most: u32, width: u32) -> Result<(), Fault>
+    ensures { result ≡ answer (width_check least most width) tt }
+{
+    if !(least..=most).contains(&width) {
+        return Err(Layer::Family.fault(Reason::Width, 0));
+    }
+    Ok(())
 }
 
 /// Refuses a seed that is not below the number of seeds (5).

@@ -20,20 +20,14 @@ fn level_at(at: u32, end: u32) -> u32
 
 // The sum of the signs of the slots, block by block. The turns are counted, since it is promised that two blocks for each bit of the width are
 // enough.
-fn sum_of_blocks<F: SignFamily>(
-    family: &F,
-    width: u32,
-    seed: u64,
-    slots: Range<u32>,
-) -> Result<i64, Fault>
-    requires width { width ≡ (F.meaning family.now).width }
+fn sum_of_blocks<F: SignFamily>(family: &F, seed: u64, slots: Range<u32>) -> Result<i64, Fault>
     requires seed { seed < (F.meaning family.now).seeds }
-    requires within { (slots.start < slots.end) × (slots.end ≤ 2 ^ width) }
+    requires within { (slots.start < slots.end) × (slots.end ≤ 2 ^ (F.meaning family.now).width) }
     ensures { result ≡ Ok (interval_sum (F.meaning family.now) seed slots.start slots.end) }
 {
     let mut sum = 0i64;
     let mut at = slots.start;
-    for _block in 0..2 * width {
+    for _block in 0..2 * family.width() {
         if at == slots.end {
             break;
         }
@@ -52,7 +46,6 @@ pub fn interval_sum<F: SignFamily>(family: &F, seed: u64, slots: Range<u32>) -> 
     ensures cover { result ≡ cover_answer (F.meaning family.now) seed slots.start slots.end }
 {
     check_seed(family.seed_count(), seed)?;
-    let width = family.width();
-    check_interval(width, &slots)?;
-    sum_of_blocks(family, width, seed, slots)
+    check_interval(family.width(), &slots)?;
+    sum_of_blocks(family, seed, slots)
 }

@@ -9,7 +9,7 @@ mod intervals;
 mod offsets;
 mod reason;
 
-pub use checks::{check_block, check_interval, check_seed, check_slot};
+pub use checks::{check_block, check_interval, check_seed, check_slot, check_width};
 pub use family::{Block, Sign, SignFamily};
 pub use faults::{Fault, Layer};
 pub use intervals::interval_sum;

@@ -36,20 +36,13 @@ fn moved(slot: u32, offset: u32, width: u32) -> u32
 }
 
 // The sum of the signs of `size` slots of a family from `start` on, round the end: one interval, or two where they go round it.
-fn sum_round<F: SignFamily>(
-    family: &F,
-    width: u32,
-    seed: u64,
-    start: u32,
-    size: u32,
-) -> Result<i64, Fault>
-    requires width { width ≡ (F.meaning family.now).width }
+fn sum_round<F: SignFamily>(family: &F, seed: u64, start: u32, size: u32) -> Result<i64, Fault>
     requires seed { seed < (F.meaning family.now).seeds }
-    requires start { start < 2 ^ width }
-    requires size { (1 ≤ size) × (size ≤ 2 ^ width) }
-    ensures { result ≡ Ok (sum size (λ k. value ((F.meaning family.now).sign seed ((start + k) % 2 ^ width)))) }
+    requires start { start < 2 ^ (F.meaning family.now).width }
+    requires size { (1 ≤ size) × (size ≤ 2 ^ (F.meaning family.now).width) }
+    ensures { result ≡ Ok (sum size (λ k. value ((F.meaning family.now).sign seed ((start + k) % 2 ^ (F.meaning family.now).width)))) }
 {
-    let slots = 1 << width;
+    let slots = 1 << family.width();
     let end = start + size;
     if end <= slots {
         return interval_sum(family, seed, start..end);
@@ -84,6 +77,6 @@ impl<F: SignFamily> SignFamily for Offset<F> {
         let width = self.below.width();
         check_block(width, block)?;
         let start = moved(block.number << block.level, self.offset, width);
-        sum_round(&self.below, width, seed, start, 1 << block.level)
+        sum_round(&self.below, seed, start, 1 << block.level)
     }
 }

@@ -23,7 +23,6 @@ loop-block-init g c =
 pub returns-in_err-sum : goal.returns-in_err-sum
 returns-in_err-sum g c =
     let F = g.F.SignFamily.meaning c.args.family.now in
-    let slots : 2 ^ c.args.width ≡ 2 ^ F.width = ap (λ x. 2 ^ x) c.requires.width in
     let block = block_at F c.args.seed c.level_at-level.result c.loop-block.at (omega arith) (omega arith) c.level_at-level.ensures.starts in
     absurd (ok_not_err _ _ (c.block_sum.ensures ∙ block) c.in_err-sum.was)
 
@@ -43,7 +42,6 @@ turn g c =
     let j = c.level_at-level.result in
     let a = c.args.slots.start in
     let at = c.loop-block.at in
-    let slots : 2 ^ c.args.width ≡ 2 ^ F.width = ap (λ x. 2 ^ x) c.requires.width in
     let few = few_slots F L in
     let block = block_at F s j at (omega arith) (omega arith) c.level_at-level.ensures.starts in
     let was : c.loop-block.sum ≡ sign_sum F s a (at - a) = sym c.loop-block.sum-is ∙ c.loop-block.invariant.2 in

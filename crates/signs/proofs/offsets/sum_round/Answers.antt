@@ -10,8 +10,8 @@ use Rattle.signs.proofs.offsets.sum_round.Given as given
 use Rattle.signs.proofs.offsets.sum_round.Goals as goal
 
 -- the slots as code counts them
-slots_is : (w n : ℕ) → w ≡ n → n ≤ 24 → 1 * 2 ^ w % 4294967296 ≡ 2 ^ w
-slots_is w n e h = one_shl w 32 (omega arith)
+slots_is : (w n : ℕ) → w ≡ n → n ≤ 24 → 1 * 2 ^ w % 4294967296 ≡ 2 ^ n
+slots_is w n e h = one_shl w 32 (omega arith) ∙ ap (λ x. 2 ^ x) e
 
 pub returns-then-end-slots : goal.returns-then-end-slots
 returns-then-end-slots g c =
@@ -20,18 +20,17 @@ returns-then-end-slots g c =
     let f : ℕ → ℤ = λ i. value (F.sign c.args.seed i) in
     let start = c.args.start in
     let size = c.args.size in
-    let width : 2 ^ c.args.width ≡ 2 ^ F.width = ap (λ x. 2 ^ x) c.requires.width in
-    let slots = slots_is c.args.width F.width c.requires.width L.narrow in
+    let slots = slots_is _ F.width c.width-slots.ensures L.narrow in
     let many : start + size - start ≡ size = omega arith in
     c.interval_sum.ensures.is
     ∙ interval_ok F c.args.seed start (start + size) c.requires.seed (record { some = omega arith; within = omega arith })
     ∙ ap (λ x. ok (run f start x)) many
-    ∙ ap ok (sym (round_straight f (2 ^ c.args.width) start size (omega arith)))
+    ∙ ap ok (sym (round_straight f (2 ^ F.width) start size (omega arith)))
 
 -- the two intervals, and that their sums are small
 record Parts (g : given.Over) (c : goal.In_ok-back g) : Type 0 where
   is : c.in_ok-front.front +ℤ c.in_ok-back.back
-      ≡ round (λ i. value ((g.F.SignFamily.meaning c.args.family.now).sign c.args.seed i)) (2 ^ c.args.width) c.args.start c.args.size
+      ≡ round (λ i. value ((g.F.SignFamily.meaning c.args.family.now).sign c.args.seed i)) (2 ^ (g.F.SignFamily.meaning c.args.family.now).width) c.args.start c.args.size
   small : nat_abs c.in_ok-front.front + nat_abs c.in_ok-back.back ≤ 2 ^ 24
 
 parts : (g : given.Over) (c : goal.In_ok-back g) → Parts g c
@@ -41,11 +40,10 @@ parts g c =
     let s = c.args.seed in
     let f : ℕ → ℤ = λ i. value (F.sign s i) in
     let start = c.args.start in
-    let N = 2 ^ c.args.width in
-    let back_end = start + c.args.size - 1 * 2 ^ c.args.width % 4294967296 in
-    let width : N ≡ 2 ^ F.width = ap (λ x. 2 ^ x) c.requires.width in
+    let N = 2 ^ F.width in
+    let back_end = start + c.args.size - 1 * 2 ^ c.width-slots.result % 4294967296 in
     let few = few_slots F L in
-    let slots = slots_is c.args.width F.width c.requires.width L.narrow in
+    let slots = slots_is _ F.width c.width-slots.ensures L.narrow in
     let over : back_end ≡ start + c.args.size - N = omega arith in
     let x : c.in_ok-front.front ≡ run f start (N - start) =
     ok_same _ _ c.in_ok-front.was (c.interval_sum-2.ensures.is ∙ interval_ok F s start _ c.requires.seed (record { some = omega arith; within = omega arith }))

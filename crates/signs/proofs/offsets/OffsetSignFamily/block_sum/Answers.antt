@@ -1,4 +1,4 @@
-use Rattle.std.proofs.Common.{◌≡◌, ℕ, ◌+◌, ◌*◌, ◌%◌, ◌^◌, ℤ, sym, ap, ◌∙◌, arith, pow_pos}
+use Rattle.std.proofs.Common.{◌≡◌, ℕ, ◌+◌, ◌*◌, ◌%◌, ◌^◌, ℤ, sym, ap, ap₂, ◌∙◌, arith, pow_pos}
 use Rattle.signs.specs.Family.{value}
 use Rattle.signs.specs.Offset.{shifted}
 use Rattle.signs.proofs.Blocks.{ok, block_ok, asked}
@@ -13,7 +13,7 @@ sum_round-requires g c =
     let n : 2 ^ c.width-width.result ≡ 2 ^ F.width = ap (λ x. 2 ^ x) c.width-width.ensures in
     let size = a.shift.size in
     let run = a.shift.run in
-    record { width = c.width-width.ensures; seed = a.seed; start = c.moved-start.ensures.there; size = (omega (arith, pow_pos c.args.block.level), omega arith) }
+    record { seed = a.seed; start = omega (arith, c.moved-start.ensures.there); size = (omega (arith, pow_pos c.args.block.level), omega arith) }
 
 pub returns : goal.returns
 returns g c =
@@ -25,11 +25,10 @@ returns g c =
     let j = c.args.block.level in
     let q = c.args.block.number in
     let v : ℕ → ℤ = λ i. value (F.sign s i) in
-    let start : c.moved-start.result ≡ (q * 2 ^ j + f.offset) % 2 ^ c.width-width.result =
-    c.moved-start.ensures.is ∙ ap (λ x. (x + f.offset) % 2 ^ c.width-width.result) a.shift.first in
+    let start : c.moved-start.result ≡ (q * 2 ^ j + f.offset) % 2 ^ F.width =
+    c.moved-start.ensures.is ∙ ap₂ (λ x n. (x + f.offset) % 2 ^ n) a.shift.first c.width-width.ensures in
     c.sum_round.ensures
-    ∙ ap (λ x. ok (round v (2 ^ c.width-width.result) c.moved-start.result x)) a.shift.size
-    ∙ ap (λ x. ok (round v (2 ^ c.width-width.result) x (2 ^ j))) start
-    ∙ ap (λ x. ok (round v (2 ^ x) ((q * 2 ^ j + f.offset) % 2 ^ x) (2 ^ j))) c.width-width.ensures
+    ∙ ap (λ x. ok (round v (2 ^ F.width) c.moved-start.result x)) a.shift.size
+    ∙ ap (λ x. ok (round v (2 ^ F.width) x (2 ^ j))) start
     ∙ ap ok (block_round F f.offset s j q)
     ∙ sym (block_ok (shifted F f.offset) s j q a.seed a.block)

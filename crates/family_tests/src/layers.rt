@@ -17,13 +17,13 @@ fn slot_sum<F: SignFamily>(family: &F, seed: u64, slots: Range<u32>) -> Result<i
 }
 
 // The first seed and interval, of all, whose sum is another than that of its slots. A block is an interval too.
-fn wrong_sum<F: SignFamily>(family: &F) -> Result<Option<(u64, u32, u32)>, Fault> {
+fn wrong_sum<F: SignFamily>(family: &F) -> Result<Option<(u64, Range<u32>)>, Fault> {
     let slots = 1 << family.width();
     for seed in 0..family.seed_count() {
         for first in 0..slots {
             for end in first + 1..=slots {
                 if interval_sum(family, seed, first..end)? != slot_sum(family, seed, first..end)? {
-                    return Ok(Some((seed, first, end)));
+                    return Ok(Some((seed, first..end)));
                 }
             }
         }

@@ -6,6 +6,8 @@
 mod edges;
 #[cfg(test)]
 mod layers;
+#[cfg(test)]
+mod prints;
 mod reasons;
 mod turned;
 

@@ -76,6 +76,7 @@ impl Table {
         ensures { result ≡ sign_sum (family_of self.now) row first count }
     {
         let start = self.place(row, first);
+        // A `for`: of a `sum` of signed numbers it is not known that it stays in bounds.
         let mut total = 0;
         for byte in &self.bytes[start..start + count as usize] {
             total += i64::from(sign_of(*byte));

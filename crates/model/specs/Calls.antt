@@ -29,6 +29,10 @@ mass b = unsigned_abs b.weight * slots b
 abbrev pub signed_mass : Booking → ℤ
 signed_mass b = b.weight *ℤ pos (slots b)
 
+-- a weight of at most 1000 in size
+abbrev pub IsLight : Booking → Type 0
+IsLight b = unsigned_abs b.weight ≤ 1000
+
 -- what the cell of each seed gains: the weight times the interval sum
 abbrev pub gains : Meaning → List ℕ → Booking → List ℤ
 gains F seeds b = map (λ seed. b.weight *ℤ interval_sum F seed b.from b.to) seeds

@@ -3,12 +3,26 @@
 
 #![tactic(auto)]
 
+ghost use Rattle.std.specs.Prelude.{◌≡◌};
+
+use std::ops::Range;
+
 /// A weight on the slots from `from` up to but not including `to`.
 #[derive(Clone, Copy, PartialEq, Eq, Debug)]
 pub struct Booking {
     pub from: u32,
     pub to: u32,
     pub weight: i32,
+}
+
+impl Booking {
+    /// The slots that the weight is on, as an interval.
+    pub fn interval(&self) -> Range<u32>
+        ensures start { result.start ≡ self.now.from }
+        ensures end { result.end ≡ self.now.to }
+    {
+        self.from..self.to
+    }
 }
 
 /// The shape of a sketch: its groups, and the columns of each.

@@ -16,7 +16,7 @@ use signs::Fault;
 use sketch::Figures;
 use tables::{FIRST_OTHER_CELL, Table, check_cells, check_length, check_same_shape};
 
-// How many totals are smaller than the pivot.
+// How many totals are smaller than the pivot. A function for each count: with both chains in the body that compares them it was not proved.
 fn smaller_count(totals: &[i64], pivot: i64) -> usize
     ensures { result ≡ smaller int_le totals.now pivot }
 {
@@ -72,6 +72,7 @@ fn total_of(cells: &[i64], others: &[i64]) -> i64
     requires other { AreWithinLimit others.now }
     ensures { result ≡ sum (length cells.now) (λ j. slice_index_or cells.now j (pos 0) *ℤ slice_index_or others.now j (pos 0)) }
 {
+    // A `for`: of a `sum` of signed numbers it is not known that it stays in bounds.
     let mut total = 0;
     for (cell, other) in cells.iter().zip(others) {
         total += cell * other;

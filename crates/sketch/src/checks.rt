@@ -1,6 +1,6 @@
 ghost use Rattle.std.specs.Prelude.{◌≡◌, ◌^◌, ◌≤◌};
 ghost use Rattle.signs.specs.Faults.{answer};
-ghost use Rattle.model.specs.Calls.{mass, booking_check};
+ghost use Rattle.model.specs.Calls.{gross_limit, mass, booking_check};
 
 use model::Booking;
 use signs::{Fault, Layer, Reason, SignFamily, check_interval};
@@ -22,12 +22,12 @@ pub(crate) fn check_booking<F: SignFamily>(
     gross: u64,
     booking: Booking,
 ) -> Result<(), Fault>
-    requires { (gross ≤ 2 ^ 26) × (times ≤ 2) }
+    requires { (gross ≤ gross_limit) × (times ≤ 2) }
     ensures { result ≡ answer (booking_check (F.meaning family.now) times gross booking) tt }
 {
     if !(1..=1000).contains(&booking.weight.unsigned_abs()) {
         return Err(Layer::Sketch.fault(Reason::Weight, 0));
     }
-    check_interval(family.width(), &(booking.from..booking.to))?;
+    check_interval(family.width(), &booking.interval())?;
     check_limit(gross + times * mass_of(booking))
 }

@@ -3,7 +3,8 @@
 
 #![tactic(auto)]
 
-ghost use Rattle.std.specs.Prelude.{◌≡◌, ◌+◌, ◌-◌, ◌*◌, ◌%◌, ◌^◌, ◌≤◌, IsTrue, unsigned_abs};
+ghost use Rattle.std.specs.Prelude.{◌≡◌, ◌+◌, ◌%◌, ◌≤◌, IsTrue, unsigned_abs};
+ghost use Rattle.model.specs.Calls.{gross_limit, IsLight, mass};
 
 use signs::Fault;
 
@@ -25,7 +26,7 @@ pub struct Figures {
     gross: u64,
     net: i64,
     ghost shaped: { (shape.groups % 2 ≡ 1) × (shape.groups ≤ 15) × (1 ≤ shape.columns) × (shape.columns ≤ 32) },
-    ghost limited: { gross ≤ 2 ^ 26 },
+    ghost limited: { gross ≤ gross_limit },
     ghost inside: { unsigned_abs net ≤ gross },
 }
 
@@ -41,8 +42,8 @@ pub struct HeldSketch {
     option: Booking,
     // A flag, and no `Option` for the option: that would need an answer for a sketch under none, which no caller has.
     spent: bool,
-    ghost light: { unsigned_abs option.weight ≤ 1000 },
-    ghost room: { figures.gross + unsigned_abs option.weight * (option.to - option.from) ≤ 2 ^ 26 },
+    ghost light: { IsLight option },
+    ghost room: { figures.gross + mass option ≤ gross_limit },
 }
 
 impl Drop for HeldSketch {

@@ -34,7 +34,7 @@ impl HeldSketch {
         ensures { Releases (F.meaning seeded.now.family.now) seeded.now.seeds.now self.now.option (tally_of self.now.figures) cells.old result cells.new }
     {
         seeded.check_tables(&self.figures, cells)?;
-        check_interval(seeded.family.width(), &(self.option.from..self.option.to))?;
+        check_interval(seeded.family.width(), &self.option.interval())?;
         let opposite = Booking {
             weight: -self.option.weight,
             ..self.option

@@ -1,7 +1,7 @@
 ghost use Rattle.std.specs.Prelude.{◌≡◌, ℕ, ◌+◌, ◌^◌, ◌<◌, ◌≤◌, None, length, slice_index, unsigned_abs};
 ghost use Rattle.signs.specs.Faults.{answer};
 ghost use Rattle.signs.specs.Family.{interval_check};
-ghost use Rattle.model.specs.Calls.{AreWithinLimit, mass, signed_mass, gains, add_each, gained_tally, tables_check, open_refusal};
+ghost use Rattle.model.specs.Calls.{AreWithinLimit, gross_limit, IsLight, mass, signed_mass, gains, add_each, gained_tally, tables_check, open_refusal};
 ghost use Rattle.sketch.specs.Promises.{tally_of, Enters};
 
 use crate::checks::{check_booking, mass_of};
@@ -47,13 +47,13 @@ impl<'a, F: SignFamily> Seeded<'a, F> {
         requires own { AreWithinLimit cells.old }
         requires some { booking.from < booking.to }
         requires within { booking.to ≤ 2 ^ (F.meaning self.now.family.now).width }
-        requires light { unsigned_abs booking.weight ≤ 1000 }
+        requires light { IsLight booking }
         ensures { cells.new ≡ add_each cells.old (gains (F.meaning self.now.family.now) self.now.seeds.now booking) }
     {
         let weight = i64::from(booking.weight);
         // By place: of cells that are written through a zip nothing is known afterwards.
         for (k, seed) in self.seeds.iter().enumerate() {
-            let sum = interval_sum(self.family, *seed, booking.from..booking.to).unwrap();
+            let sum = interval_sum(self.family, *seed, booking.interval()).unwrap();
             cells[k] += weight * sum;
         }
     }
@@ -62,8 +62,8 @@ impl<'a, F: SignFamily> Seeded<'a, F> {
     pub(crate) fn book(&self, figures: Figures, cells: &mut [i64], booking: Booking) -> Figures
         requires tables { tables_check (F.meaning self.now.family.now) self.now.seeds.now (tally_of figures) cells.old ≡ None }
         requires interval { interval_check (F.meaning self.now.family.now).width booking.from booking.to ≡ None }
-        requires light { unsigned_abs booking.weight ≤ 1000 }
-        requires room { figures.gross + mass booking ≤ 2 ^ 26 }
+        requires light { IsLight booking }
+        requires room { figures.gross + mass booking ≤ gross_limit }
         ensures figures { tally_of result ≡ gained_tally (tally_of figures) (mass booking) (signed_mass booking) }
         ensures table { cells.new ≡ add_each cells.old (gains (F.meaning self.now.family.now) self.now.seeds.now booking) }
     {

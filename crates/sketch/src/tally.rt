@@ -1,5 +1,5 @@
 ghost use Rattle.std.specs.Prelude.{◌≡◌, ◌+◌, ◌^◌, ◌≤◌, unsigned_abs};
-ghost use Rattle.model.specs.Calls.{entries, gained_tally};
+ghost use Rattle.model.specs.Calls.{entries, gained_tally, gross_limit};
 ghost use Rattle.sketch.specs.Promises.{tally_of};
 
 use crate::{Figures, Shape};
@@ -51,7 +51,7 @@ impl Figures {
 
     // The figures with so much more gross and net.
     pub(crate) fn gained(self, gross: u64, net: i64) -> Figures
-        requires room { self.gross + gross ≤ 2 ^ 26 }
+        requires room { self.gross + gross ≤ gross_limit }
         requires net { unsigned_abs net ≤ gross }
         ensures { tally_of result ≡ gained_tally (tally_of self) gross net }
     {

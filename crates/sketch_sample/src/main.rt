@@ -24,16 +24,13 @@ fn withdrawn(
     cells: &mut [i64],
     option: Booking,
 ) -> Result<OpenSketch, Fault> {
-    match sketch
+    sketch
         .hold(family, &SEEDS, cells, option)?
         .withdraw(family, &SEEDS, cells)
-    {
-        Ok(sketch) => Ok(sketch),
-        Err(Refused { sketch, fault }) => {
+        .map_err(|Refused { sketch, fault }| {
             let _ = sketch.confirm();
-            Err(fault)
-        }
-    }
+            fault
+        })
 }
 
 // A post, an option that is withdrawn, and one that is confirmed.

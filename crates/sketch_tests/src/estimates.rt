@@ -4,18 +4,13 @@ use crate::calls::{booking, shape};
 use overlap::overlap;
 use parity::Bch3;
 use signs::{Fault, Layer, Reason};
-use sketch::{Figures, OpenSketch};
+use sketch::{Figures, OpenSketch, Shape};
 use std::test::Fail;
 
 // Slots 0 to 5 at weight 1, on a sketch of three cells.
-fn three_cells(
-    groups: usize,
-    columns: usize,
-    seeds: &[u64],
-    cells: &mut [i64],
-) -> Result<Figures, Fault> {
+fn three_cells(shape: Shape, seeds: &[u64], cells: &mut [i64]) -> Result<Figures, Fault> {
     let family = Bch3::new(3)?;
-    let mut sketch = OpenSketch::open(&family, shape(groups, columns), seeds, cells)?;
+    let mut sketch = OpenSketch::open(&family, shape, seeds, cells)?;
     sketch.post(&family, seeds, cells, booking(0, 6, 1))?;
     Ok(sketch.figures())
 }
@@ -24,19 +19,19 @@ fn three_cells(
 fn middles(rt: HostRuntime) -> Result<(), Fail> {
     let mut cells = [0; 3];
     let mut totals = [5; 3];
-    let figures = three_cells(3, 1, &[0, 2, 4], &mut cells)?;
+    let figures = three_cells(shape(3, 1), &[0, 2, 4], &mut cells)?;
     let estimate = overlap(&figures, &cells, &figures, &cells, &mut totals)?;
     assert_eq!(rt; estimate.middle, 4);
     assert_eq!(rt; estimate.columns, 1);
     assert_eq!(rt; totals[0], 36);
     assert_eq!(rt; totals[1], 0);
     assert_eq!(rt; totals[2], 4);
-    let figures = three_cells(3, 1, &[2, 0, 0], &mut cells)?;
+    let figures = three_cells(shape(3, 1), &[2, 0, 0], &mut cells)?;
     assert_eq!(rt;
         overlap(&figures, &cells, &figures, &cells, &mut totals)?.middle,
         36
     );
-    let figures = three_cells(1, 3, &[0, 2, 4], &mut cells)?;
+    let figures = three_cells(shape(1, 3), &[0, 2, 4], &mut cells)?;
     let mut total = [5];
     let estimate = overlap(&figures, &cells, &figures, &cells, &mut total)?;
     assert_eq!(rt; estimate.middle, 40);
@@ -51,7 +46,7 @@ fn two_sketches(rt: HostRuntime) -> Result<(), Fail> {
     let mut cells = [0; 3];
     let mut others = [0; 3];
     let mut totals = [5; 3];
-    let first = three_cells(3, 1, &[0, 2, 4], &mut cells)?;
+    let first = three_cells(shape(3, 1), &[0, 2, 4], &mut cells)?;
     let family = Bch3::new(3)?;
     let mut sketch = OpenSketch::open(&family, shape(3, 1), &[0, 2, 4], &mut others)?;
     sketch.post(&family, &[0, 2, 4], &mut others, booking(0, 4, -2))?;
@@ -67,8 +62,8 @@ fn two_sketches(rt: HostRuntime) -> Result<(), Fail> {
 #[test]
 fn refused_overlaps(rt: HostRuntime) -> Result<(), Fail> {
     let mut cells = [0; 3];
-    let tall = three_cells(3, 1, &[0, 2, 4], &mut cells)?;
-    let wide = three_cells(1, 3, &[0, 2, 4], &mut cells)?;
+    let tall = three_cells(shape(3, 1), &[0, 2, 4], &mut cells)?;
+    let wide = three_cells(shape(1, 3), &[0, 2, 4], &mut cells)?;
     let mut totals = [5; 3];
     assert_eq!(rt;
         overlap(&tall, &cells, &wide, &cells, &mut totals).err(),
@@ -96,8 +91,8 @@ fn merging(rt: HostRuntime) -> Result<(), Fail> {
     let mut cells = [0; 3];
     let mut sketch = OpenSketch::open(&family, shape(3, 1), &[0, 2, 4], &mut cells)?;
     let mut others = [0; 3];
-    let other = three_cells(3, 1, &[0, 2, 4], &mut others)?;
-    let turned = three_cells(1, 3, &[0, 2, 4], &mut others)?;
+    let other = three_cells(shape(3, 1), &[0, 2, 4], &mut others)?;
+    let turned = three_cells(shape(1, 3), &[0, 2, 4], &mut others)?;
     assert_eq!(rt;
         sketch.merge(&mut cells, &turned, &others).err(),
         Some(Layer::Sketch.fault(Reason::Shape, 0))

@@ -53,7 +53,7 @@ pub fn check_same_shape(own: Shape, other: Shape) -> Result<(), Fault>
     Ok(())
 }
 
-/// Refuses a table that has not as many entries as are due (10).
+/// Refuses a table that has not as many entries as are due (10). Its number is any, and not only that of a `Table`.
 pub fn check_length<T>(table: &[T], due: usize, number: u64) -> Result<(), Fault>
     ensures { result ≡ answer (length_check number due table.now) tt }
 {

@@ -2,7 +2,7 @@ use Rattle.std.proofs.Common.{◌≡◌, ℕ, ◌+◌, ◌*◌, ◌^◌, ◌<◌
 use Rattle.std.proofs.lemmas.Nat.{mul-le}
 use Rattle.std.proofs.lemmas.List.{length-map, get_or-map}
 use Rattle.std.proofs.lemmas.Int.{to_z-of_z}
-use Rattle.signs.specs.Family.{Meaning, Lawful, interval_sum, interval_refusal}
+use Rattle.signs.specs.Family.{Meaning, Lawful, interval_sum, interval_refusal, interval_answer}
 use Rattle.signs.proofs.Answers.{said}
 use Rattle.signs.specs.SumsLemmas.{signs_abs}
 use Rattle.model.specs.declared.Booking.{Booking}
@@ -58,7 +58,7 @@ module _ (g : given.Over) (c : After-unwrap-sum g) where
       let fits : SFits w32 b.weight = search rules in
       let weight_is = ap bitted (c.from-weight.ensures ∙ to_z-of_z w32 b.weight fits) ∙ bitted_is b.weight (omega (arith, c.requires.light)) in
       let S = interval_sum (F g start) seed b.from b.to in
-      let sum_is_lem = said (interval_refusal (F g start) seed b.from b.to) S c.unwrap-sum.result (sym c.unwrap-sum.ensures ∙ c.interval_sum.ensures.is) in
+      let sum_is_lem = said (interval_refusal (F g start) seed b.from b.to) S c.unwrap-sum.result (sym c.unwrap-sum.ensures ∙ c.interval_sum.ensures.is ∙ ap₂ (interval_answer (F g start) seed) c.interval.ensures.start c.interval.ensures.end) in
       let few = sum_small (F g start) (g.met.F.SignFamily.lawful c.args.self.now.family.now) b c.requires.within seed in
       ap₂ ◌*ℤ◌ weight_is (ap bitted sum_is_lem ∙ bitted_is S (omega arith))
 

@@ -70,8 +70,8 @@ def facts():
         for number, line in code(path):
             fact = re.search(r"(?:requires \w*|ghost \w+:) *\{(.*)\}", line)
             if fact:
-                text = re.sub(r"\b\w+(\.(now|old|entry))", r"v\1", fact.group(1))
-                text = re.sub(r"\.(now|old)\b", "", text)
+                text = re.sub(r"\b\w+\.(?=\w)", "v.", fact.group(1))
+                text = re.sub(r"(v\.)+(now|old)\b", "v", text)
                 for part in re.split(r" × ", text):
                     found.setdefault(part.strip(" ()"), set()).add(f"{path.relative_to(TOP)}:{number}")
     return [(f"{len(p)} places: {t}", "; ".join(sorted(p))) for t, p in found.items() if len(p) > 2]
@@ -93,9 +93,9 @@ def together():
 
 POINTS = [
     ("1 flags beside a value", lines(r"^\s*\w+: bool,")),
-    ("1 numbers for kinds", lines(r"const [A-Z_]+: u(8|64) = \d;|^\s+number: u8,|\bnumber: u8[,)]")),
+    ("1 numbers for kinds", lines(r"const [A-Z_]+: u(8|64) = \d;|\bnumber: u(8|64)[,)]")),
     ("1 refusals compared by number", lines(r"\bis_(table_)?refused\(")),
-    ("1 errors passed on by hand", lines(r"Err\((\w+)\) => (return )?Err\(\1(\.fault)?\)|Ok\(\w+\) => Ok\(\w+[.(].*\),|unreachable\(")),
+    ("1 errors passed on by hand", lines(r"Err\((\w+)\) => (return )?Err\(\1(\.fault)?\)|Ok\(\w+\) => Ok\(\w+([.(].*)?\),|unreachable\(")),
     ("2 functions of one shape", shapes()),
     ("3 loops over an index", lines(r"\bfor \(?\w+.* in (.*\.\.|.*enumerate\(\))|\bwhile\b|\bloop\b")),
     ("4 comparison, conversion and printing by hand", lines(r"^impl (PartialEq|Eq|PartialOrd|Ord|Clone|Debug)\b|\bfn (print_refusal|value_of|are_alike|opposite|signed|letter|digit)\b|Sign::(Plus|Minus) => .*(1|size)")),

@@ -1,4 +1,4 @@
-ghost use Rattle.std.specs.Prelude.{◌≡◌, ◌+◌, ◌*◌, ◌^◌, ◌<◌, ◌≤◌, length};
+ghost use Rattle.std.specs.Prelude.{◌≡◌, ◌+◌, ◌*◌, ◌^◌, ◌<◌, ◌≤◌, length, nat_lt, position};
 ghost use Rattle.std.specs.Option.{option_map};
 ghost use Rattle.std.specs.Result.{result_map_both};
 ghost use Rattle.signs.specs.declared.reason.Reason.TheVariants.{Unbalanced};
@@ -15,11 +15,18 @@ fn sign_of(byte: u8) -> Sign
     if byte == 0 { Sign::Plus } else { Sign::Minus }
 }
 
+// The first byte that is neither 0 nor 1.
+fn first_foreign(bytes: &[u8]) -> Option<usize>
+    ensures { result ≡ position (λ byte. nat_lt 1 byte) bytes.now }
+{
+    bytes.iter().position(|byte| *byte > 1)
+}
+
 // Refuses the first byte that is neither 0 nor 1 (3).
 fn check_bytes(bytes: &[u8]) -> Result<(), Fault>
     ensures { result ≡ answer (bytes_check bytes.now) tt }
 {
-    match bytes.iter().position(|byte| *byte > 1) {
+    match first_foreign(bytes) {
         Some(place) => Err(Layer::Family.fault(Reason::SignByte, place as u64)),
         None => Ok(()),
     }

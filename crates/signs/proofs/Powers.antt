@@ -1,7 +1,7 @@
 -- Divisibility by powers of two, and what `trailing_zeros` says of it. Assumes nothing.
-use Rattle.std.proofs.Common.{◌≡◌, ℕ, zero, suc, ◌+◌, ◌-◌, ◌*◌, ◌/◌, ◌%◌, ◌^◌, ◌<◌, ◌≤◌, ◌⊎◌, sym, refl, ap, ◌∙◌, subst, inl, inr, suc-le-suc, zero-le, le_of_suc-le-suc, not-suc-le-zero, pow-suc, div-add-mod', arith, pow_pos}
+use Rattle.std.proofs.Common.{add-one, ◌≡◌, ℕ, zero, suc, ◌+◌, ◌-◌, ◌*◌, ◌/◌, ◌%◌, ◌^◌, ◌<◌, ◌≤◌, ◌⊎◌, sym, refl, ap, ◌∙◌, subst, inl, inr, suc-le-suc, zero-le, le_of_suc-le-suc, not-suc-le-zero, pow-suc, div-add-mod', arith}
 use native.Mathlib.Nat.{mul-mod_left, zero-mod}
-use lib.Arith.{mod-mul}
+use lib.Pow.{mod-pow-add}
 use lib.Count.{count_trailing_zeros, under}
 use lib.Pow.{pow-lt, mod-mod-pow}
 use Rattle.std.proofs.lemmas.Bool.{cases_lt}
@@ -16,7 +16,7 @@ parity n = pick (n % 2) refl
 
 -- the lowest bit, and the others
 pub mod_half : (n j : ℕ) → n % 2 ^ suc j ≡ (n / 2 % 2 ^ j) * 2 + n % 2
-mod_half n j = ap (λ x. n % x) (pow-suc 2 j) ∙ mod-mul n {m = 2 ^ j} {c = 2} (pow_pos j) (omega arith)
+mod_half n j = ap (λ k. n % 2 ^ k) (sym (add-one j)) ∙ mod-pow-add n j 1
 
 -- what has j trailing zeros is a multiple of 2 ^ j
 pub trailing_divides : (k n j : ℕ) → j ≤ count_trailing_zeros k n → n % 2 ^ j ≡ 0

@@ -1,7 +1,7 @@
-use Rattle.std.proofs.Common.{◌≡◌, suc, ◌+◌, ◌-◌, ◌*◌, ◌%◌, ◌^◌, ◌≤◌, ◌+ℤ◌, nat_abs, sym, ap, ◌∙◌, subst, arith}
+use Rattle.std.proofs.Common.{◌≡◌, suc, ◌+◌, ◌-◌, ◌*◌, ◌/◌, ◌%◌, ◌^◌, ◌≤◌, ◌+ℤ◌, nat_abs, sym, ap, ◌∙◌, subst, arith}
 use Rattle.std.proofs.lemmas.Nat.{one_shl}
 use Rattle.std.proofs.lemmas.Int.{ints}
-use Rattle.signs.specs.Family.{value, sign_sum}
+use Rattle.signs.specs.Family.{value, sign_sum, block_answer}
 use Rattle.signs.specs.SumsLemmas.{sum_none, signs_abs}
 use Rattle.signs.proofs.Cover.{Enough, enough_start, enough_next}
 use Rattle.signs.proofs.Blocks.{few_slots, block_at, ok_same, ok_not_err, sum_next}
@@ -24,7 +24,8 @@ pub returns-in_err-sum : goal.returns-in_err-sum
 returns-in_err-sum g c =
     let F = g.F.SignFamily.meaning c.args.family.now in
     let block = block_at F c.args.seed c.level_at-level.result c.loop-block.at (omega arith) (omega arith) c.level_at-level.ensures.starts in
-    absurd (ok_not_err _ _ (c.block_sum.ensures ∙ block) c.in_err-sum.was)
+    let told : c.block_sum.result ≡ block_answer F c.args.seed c.level_at-level.result (c.loop-block.at / 2 ^ c.level_at-level.result) = c.block_sum.ensures in
+    absurd (ok_not_err _ _ (told ∙ block) c.in_err-sum.was)
 
 -- what a turn adds, and that it is small
 record Turn (g : given.Over) (c : goal.In_ok-sum g) : Type 0 where
@@ -45,7 +46,8 @@ turn g c =
     let few = few_slots F L in
     let block = block_at F s j at (omega arith) (omega arith) c.level_at-level.ensures.starts in
     let was : c.loop-block.sum ≡ sign_sum F s a (at - a) = sym c.loop-block.sum-is ∙ c.loop-block.invariant.2 in
-    let adds : c.in_ok-sum.field-0 ≡ sign_sum F s at (2 ^ j) = ok_same _ _ c.in_ok-sum.was (c.block_sum.ensures ∙ block) in
+    let told : c.block_sum.result ≡ block_answer F s j (at / 2 ^ j) = c.block_sum.ensures in
+    let adds : c.in_ok-sum.field-0 ≡ sign_sum F s at (2 ^ j) = ok_same _ _ c.in_ok-sum.was (told ∙ block) in
     let old = signs_abs (at - a) (λ k. F.sign s (a + k)) in
     let new = signs_abs (2 ^ j) (λ k. F.sign s (at + k)) in
     let x : nat_abs c.loop-block.sum ≡ nat_abs (sign_sum F s a (at - a)) = ap nat_abs was in

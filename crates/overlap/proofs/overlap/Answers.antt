@@ -49,12 +49,6 @@ row_there c n group cells e below long =
     let row : suc group * c.args.first.now.shape.columns ≤ c.args.first.now.shape.groups * c.args.first.now.shape.columns = mul-le-mul_right c.args.first.now.shape.columns (omega (arith, (fine c).totals_long, below)) in
     subst (λ m. suc group * m ≤ length cells) (sym e) (omega (arith, row, long))
 
-pub row-requires : goal.row-requires
-row-requires c = let w = (goal.at.row-requires c).In_ok-check_overlap in row_there w _ _ _ c.columns-columns.ensures c.loop-group-test.true (fine w).first_long
-
-pub row-requires-in-loop-group : goal.row-requires-in-loop-group
-row-requires-in-loop-group c = let w = (goal.at.row-requires-in-loop-group c).In_ok-check_overlap in row_there w _ _ _ c.columns-columns.ensures c.loop-group-test.true (fine w).second_long
-
 -- the rows of the two sketches
 record Rows (c : After-row-in-loop-group) : Type 0 where
   first : Row c.columns-columns.result c.loop-group.group c.args.first_cells.now c.row.result.now

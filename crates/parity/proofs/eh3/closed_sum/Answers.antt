@@ -28,11 +28,5 @@ overflow_mul-number c = let h = halves c.args.block.number c.args.block.level (o
 pub even_sum-requires-2 : goal.even_sum-requires-2
 even_sum-requires-2 c = let h = halves c.args.block.number c.args.block.level (omega arith) c.requires.block in record { seed = omega arith; half = omega arith; number = h.first }
 
-pub overflow_mul-number-2 : goal.overflow_mul-number-2
-overflow_mul-number-2 c = let h = halves c.args.block.number c.args.block.level (omega arith) c.requires.block in let n = h.number in record { fits = omega arith }
-
-pub overflow_add-number : goal.overflow_add-number
-overflow_add-number c = let h = halves c.args.block.number c.args.block.level (omega arith) c.requires.block in let n = h.number in record { fits = omega arith }
-
 pub even_sum-requires-3 : goal.even_sum-requires-3
 even_sum-requires-3 c = let h = halves c.args.block.number c.args.block.level (omega arith) c.requires.block in record { seed = omega arith; half = omega arith; number = h.second }

@@ -1,4 +1,4 @@
 pub mod Counts
 pub mod Products
 pub mod Comparable
-pub mod Rows
+pub mod Groups

@@ -1,4 +1,4 @@
-//! The overlap of two sketches, estimated from their cells.
+//! The overlap of two sketches, estimated from their cells, which the caller keeps and lends beside the figures.
 
 #![tactic(auto)]
 
@@ -16,18 +16,14 @@ use signs::Fault;
 use sketch::Figures;
 use tables::{FIRST_OTHER_CELL, Table, check_cells, check_length, check_same_shape};
 
-// How many totals are smaller than the pivot. A function for each count: with both chains in the body that compares them it was not proved.
-fn smaller_count(totals: &[i64], pivot: i64) -> usize
-    ensures { result ≡ smaller int_le totals.now pivot }
+// How many totals are smaller than `pivot`, and how many are greater.
+fn ranks(totals: &[i64], pivot: i64) -> (usize, usize)
+    ensures smaller { result.0 ≡ smaller int_le totals.now pivot }
+    ensures greater { result.1 ≡ greater int_le totals.now pivot }
 {
-    totals.iter().filter(|total| **total < pivot).count()
-}
-
-// How many are greater.
-fn greater_count(totals: &[i64], pivot: i64) -> usize
-    ensures { result ≡ greater int_le totals.now pivot }
-{
-    totals.iter().filter(|total| **total > pivot).count()
+    let below = totals.iter().filter(|total| **total < pivot).count();
+    let above = totals.iter().filter(|total| **total > pivot).count();
+    (below, above)
 }
 
 // Whether at most half of the other totals are smaller than this one, and at most half greater.
@@ -35,7 +31,8 @@ fn is_central(totals: &[i64], pivot: i64) -> bool
     ensures { result ≡ central int_le totals.now pivot }
 {
     let half = totals.len().saturating_sub(1) / 2;
-    smaller_count(totals, pivot) <= half && greater_count(totals, pivot) <= half
+    let (below, above) = ranks(totals, pivot);
+    below <= half && above <= half
 }
 
 // The first total that is central, where there is one.
@@ -56,7 +53,7 @@ fn middle_of(totals: &[i64]) -> i64
 }
 
 // The cells of a group.
-fn row(cells: &[i64], columns: usize, group: usize) -> &[i64]
+fn cells_of(cells: &[i64], columns: usize, group: usize) -> &[i64]
     requires { suc group * columns ≤ length cells.now }
     ensures { result.now ≡ take columns (drop (group * columns) cells.now) }
 {
@@ -64,7 +61,7 @@ fn row(cells: &[i64], columns: usize, group: usize) -> &[i64]
     &cells[start..start + columns]
 }
 
-// The sum of the products of the cells beside one another, in two rows of a group.
+// The sum of the products of the cells beside one another, in one group of two sketches.
 fn total_of(cells: &[i64], others: &[i64]) -> i64
     requires same { length others.now ≡ length cells.now }
     requires few { length cells.now ≤ 32 }
@@ -118,8 +115,8 @@ pub fn overlap(
     let columns = first.columns();
     for (group, total) in totals.iter_mut().enumerate() {
         *total = total_of(
-            row(first_cells, columns, group),
-            row(second_cells, columns, group),
+            cells_of(first_cells, columns, group),
+            cells_of(second_cells, columns, group),
         );
     }
     Ok(Estimate {

@@ -72,7 +72,7 @@ impl<'a, F: SignFamily> Seeded<'a, F> {
         figures.gained(mass_of(booking), net)
     }
 
-    /// Checks a booking that needs room for `times` its mass, and books it: the figures then.
+    /// Checks a booking that needs room for `times` its mass, a factor and no choice of the call, and books it: the figures then.
     pub(crate) fn enter(
         &self,
         figures: Figures,

@@ -15,8 +15,8 @@ use Rattle.sketch.specs.Promises.{tally_of}
 use Rattle.tables.proofs.Swept.{swept_more, swept_all}
 use Rattle.overlap.proofs.Comparable.{Comparable, overlap_passed}
 use Rattle.overlap.proofs.overlap.Goals as goal
-use Rattle.overlap.proofs.Rows.{Row, row_is}
-use Rattle.overlap.proofs.overlap.Goals.{In_ok-check_overlap, After-row-in-loop-group}
+use Rattle.overlap.proofs.Groups.{GroupOf, group_is}
+use Rattle.overlap.proofs.overlap.Goals.{In_ok-check_overlap, After-cells_of-in-loop-group}
 
 module _ (c : In_ok-check_overlap) where
   abbrev refusal : Refusal
@@ -44,28 +44,28 @@ module _ (c : In_ok-check_overlap) where
   long = many ∙ sym fine.totals_long
 
 -- a group's cells are there
-row_there : (c : In_ok-check_overlap) (n group : ℕ) (cells : List ℤ) → n ≡ c.args.first.now.shape.columns → group < length c.args.totals.now → length cells ≡ entries (tally_of c.args.first.now) → suc group * n ≤ length cells
-row_there c n group cells e below long =
-    let row : suc group * c.args.first.now.shape.columns ≤ c.args.first.now.shape.groups * c.args.first.now.shape.columns = mul-le-mul_right c.args.first.now.shape.columns (omega (arith, (fine c).totals_long, below)) in
-    subst (λ m. suc group * m ≤ length cells) (sym e) (omega (arith, row, long))
+group_there : (c : In_ok-check_overlap) (n group : ℕ) (cells : List ℤ) → n ≡ c.args.first.now.shape.columns → group < length c.args.totals.now → length cells ≡ entries (tally_of c.args.first.now) → suc group * n ≤ length cells
+group_there c n group cells e below long =
+    let part : suc group * c.args.first.now.shape.columns ≤ c.args.first.now.shape.groups * c.args.first.now.shape.columns = mul-le-mul_right c.args.first.now.shape.columns (omega (arith, (fine c).totals_long, below)) in
+    subst (λ m. suc group * m ≤ length cells) (sym e) (omega (arith, part, long))
 
--- the rows of the two sketches
-record Rows (c : After-row-in-loop-group) : Type 0 where
-  first : Row c.columns-columns.result c.loop-group.group c.args.first_cells.now c.row.result.now
-  second : Row c.columns-columns.result c.loop-group.group c.args.second_cells.now c.row-in-loop-group.result.now
+-- the groups of the two sketches
+record Groups (c : After-cells_of-in-loop-group) : Type 0 where
+  first : GroupOf c.columns-columns.result c.loop-group.group c.args.first_cells.now c.cells_of.result.now
+  second : GroupOf c.columns-columns.result c.loop-group.group c.args.second_cells.now c.cells_of-in-loop-group.result.now
 
-rows : (c : After-row-in-loop-group) → Rows c
-rows c =
-    let w = (goal.at.After-row-in-loop-group c).In_ok-check_overlap in
+groups : (c : After-cells_of-in-loop-group) → Groups c
+groups c =
+    let w = (goal.at.After-cells_of-in-loop-group c).In_ok-check_overlap in
     record {
-      first = row_is _ _ _ _ (row_there w _ _ _ c.columns-columns.ensures c.loop-group-test.true (fine w).first_long) c.row.ensures;
-      second = row_is _ _ _ _ (row_there w _ _ _ c.columns-columns.ensures c.loop-group-test.true (fine w).second_long) c.row-in-loop-group.ensures;
+      first = group_is _ _ _ _ (group_there w _ _ _ c.columns-columns.ensures c.loop-group-test.true (fine w).first_long) c.cells_of.ensures;
+      second = group_is _ _ _ _ (group_there w _ _ _ c.columns-columns.ensures c.loop-group-test.true (fine w).second_long) c.cells_of-in-loop-group.ensures;
     }
 
 pub total_of-requires : goal.total_of-requires
 total_of-requires c =
     let f = fine (goal.at.total_of-requires c).In_ok-check_overlap in
-    let r = rows (goal.at.total_of-requires c).After-row-in-loop-group in
+    let r = groups (goal.at.total_of-requires c).After-cells_of-in-loop-group in
     record {
       same = r.second.long ∙ sym r.first.long;
       few = omega (arith, r.first.long, c.columns-columns.ensures, c.args.first.now.shaped.3);
@@ -76,7 +76,7 @@ total_of-requires c =
 pub loop-group-preserved : goal.loop-group-preserved
 loop-group-preserved c =
     let w = (goal.at.loop-group-preserved c).In_ok-check_overlap in
-    let r = rows (goal.at.loop-group-preserved c).After-row-in-loop-group in
+    let r = groups (goal.at.loop-group-preserved c).After-cells_of-in-loop-group in
     let i = c.loop-group.group in
     let n = c.columns-columns.result in
     let cells = c.args.first_cells.now in
@@ -85,7 +85,7 @@ loop-group-preserved c =
     let fits : SFits w64 c.total_of.result = search rules in
     let total : c.total_of.result ≡ one w i =
     c.total_of.ensures
-    ∙ ap (λ m. sum m (λ j. get_or c.row.result.now j (pos 0) *ℤ get_or c.row-in-loop-group.result.now j (pos 0))) r.first.long
+    ∙ ap (λ m. sum m (λ j. get_or c.cells_of.result.now j (pos 0) *ℤ get_or c.cells_of-in-loop-group.result.now j (pos 0))) r.first.long
     ∙ sum_ext n _ _ (λ j l. ap₂ ◌*ℤ◌ (r.first.at j l) (r.second.at j l))
     ∙ ap (λ m. group_total m cells others i) c.columns-columns.ensures in
     let here : to_z w64 (of_z w64 c.total_of.result) ≡ get_or (all w) i (pos 0) =

@@ -179,6 +179,7 @@ fn columns(rt: HostRuntime) -> Result<(), Fail> {
 fn bch3_table(rt: &HostRuntime, rows: u64) -> Result<Vec<u8>, Fail> {
     let family = Bch3::new(6)?;
     let mut table = Vec::new(rt.alloc());
+    // Seeds and slots are numbers, and no places in a list.
     for seed in 0..rows {
         for slot in 0..64 {
             let sign = family.sign(seed % 128, slot)?;

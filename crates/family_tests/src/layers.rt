@@ -18,6 +18,7 @@ fn slot_sum<F: SignFamily>(family: &F, seed: u64, slots: Range<u32>) -> Result<i
 
 // The first seed and interval, of all, whose sum is another than that of its slots. A block is an interval too.
 fn wrong_sum<F: SignFamily>(family: &F) -> Result<Option<(u64, Range<u32>)>, Fault> {
+    // Seeds and slots are numbers, and no places in a list.
     let slots = 1 << family.width();
     for seed in 0..family.seed_count() {
         for first in 0..slots {

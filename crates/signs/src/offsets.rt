@@ -26,7 +26,7 @@ impl<F> Offset<F> {
     }
 }
 
-// Where a slot goes: `offset` on, round the end at 2^width.
+// Where a slot goes: `offset` on, round the end at 2^width. The width is a family's, of any type, so that its bound is asked here.
 fn moved(slot: u32, offset: u32, width: u32) -> u32
     requires { width ≤ 24 }
     ensures is { result ≡ (slot + offset) % 2 ^ width }

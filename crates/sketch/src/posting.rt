@@ -40,6 +40,7 @@ impl OpenSketch {
         ensures { Holds (F.meaning family.now) seeds.now booking (open_state self cells.old) result cells.new }
     {
         let seeded = Seeded { family, seeds };
+        // As in `withdraw`, where both arms need the sketch.
         match seeded.enter(self.figures, cells, 2, booking) {
             Ok(figures) => Ok(HeldSketch {
                 figures,

@@ -66,6 +66,7 @@ fn print_refusal(rt: &impl Print, fault: Fault) -> io::Result<()> {
 }
 
 fn print_sketch(rt: &impl Print, sketch: &OpenSketch, cells: &[i64]) -> io::Result<()> {
+    // The index is printed.
     for (index, cell) in cells.iter().enumerate() {
         print!(rt; "cell,{index},{cell}\r\n")?;
     }

@@ -13,6 +13,7 @@ fn posted_over_all(family: &Bch3, weight: i32) -> Result<u64, Fault> {
     Ok(sketch.figures().gross())
 }
 
+// Like `posted_over_all`, by the call that the limit counts twice.
 fn held_over_all(family: &Bch3, weight: i32) -> Result<u64, Fault> {
     let mut cells = [7];
     let sketch = OpenSketch::open(family, shape(1, 1), &[5], &mut cells)?;

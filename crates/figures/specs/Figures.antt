@@ -68,6 +68,7 @@ FiguresHold = families.FiguresHold × AllByRecursion (Holds by_signs by_rules) f
 abbrev pub sample_seeds : List ℕ
 sample_seeds = 3 ∷ (10 ∷ [])
 
+-- `negsuc n` is -(n + 1)
 abbrev pub sample : Run
 sample =
     confirm (hold (withdraw (hold (post (opened 1 2 (pos 0 ∷ (pos 0 ∷ []))) (booking 2 11 (pos 3))) (booking 5 6 (pos 4)))) (booking 12 14 (negsuc 0)))

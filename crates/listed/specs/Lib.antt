@@ -1,3 +1,3 @@
 pub mod Listed
 pub mod Cells
-pub mod Table
+pub mod SignTable

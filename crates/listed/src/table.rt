@@ -34,7 +34,7 @@ fn check_bytes(bytes: &[u8]) -> Result<(), Fault>
 
 /// The signs of a family of 2^width columns, row by row, with a byte for each: 0 for plus, 1 for minus.
 #[derive(Drop)]
-pub(crate) struct Table {
+pub(crate) struct SignTable {
     pub(crate) width: u32,
     pub(crate) rows: u32,
     bytes: Vec<u8>,
@@ -43,11 +43,11 @@ pub(crate) struct Table {
     ghost size: { length bytes.items ≡ rows * 2 ^ width },
 }
 
-impl Table {
-    ghost use Rattle.listed.specs.Table.{family_of};
+impl SignTable {
+    ghost use Rattle.listed.specs.SignTable.{family_of};
 
     /// The table of those bytes, or the first of its faults: the width (1), the rows (2), a byte (3).
-    pub(crate) fn new(width: u32, rows: u32, bytes: Vec<u8>) -> Result<Table, Fault>
+    pub(crate) fn new(width: u32, rows: u32, bytes: Vec<u8>) -> Result<SignTable, Fault>
         ensures { result_map_both family_of (λ e. e) result ≡ answer (width_check 1 6 width ⨾ rows_check width rows bytes.items ⨾ bytes_check bytes.items) (listed width rows bytes.items) }
     {
         check_width(1, 6, width)?;
@@ -55,7 +55,7 @@ impl Table {
             return Err(Layer::Family.fault(Reason::Rows, 0));
         }
         check_bytes(&bytes)?;
-        Ok(Table { width, rows, bytes })
+        Ok(SignTable { width, rows, bytes })
     }
 
     // Where the byte of a row and a column stands; the end of a row counts as a column.

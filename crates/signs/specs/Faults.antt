@@ -35,14 +35,15 @@ letter_of layer.Sketch = 83
 letter_of layer.List = 76
 letter_of layer.StoredFile = 68
 
-abbrev pub fault_of : Layer → Reason → ℕ → Fault
-fault_of who why at = record { reason = why; layer = who; place = at }
+-- a fault of a layer, for a reason and at a place
+abbrev pub layer_fault : Layer → Reason → ℕ → Fault
+layer_fault who why at = record { reason = why; layer = who; place = at }
 
 abbrev pub family_fault : Reason → ℕ → Fault
-family_fault = fault_of layer.Family
+family_fault = layer_fault layer.Family
 
 abbrev pub sketch_fault : Reason → ℕ → Fault
-sketch_fault = fault_of layer.Sketch
+sketch_fault = layer_fault layer.Sketch
 
 -- a fault in print, as `refused 5 F 0`
 abbrev pub text_of : Fault → List ℕ

@@ -1,5 +1,5 @@
 ghost use Rattle.std.specs.Prelude.{◌≡◌, Some};
-ghost use Rattle.signs.specs.Faults.{number_of, letter_of, fault_of, text_of};
+ghost use Rattle.signs.specs.Faults.{number_of, letter_of, layer_fault, text_of};
 
 use crate::reason::Reason;
 use std::error::Error;
@@ -17,7 +17,7 @@ pub enum Layer {
 impl Layer {
     /// A refusal of this layer.
     pub fn fault(self, reason: Reason, place: u64) -> Fault
-        ensures { result ≡ fault_of self reason place }
+        ensures { result ≡ layer_fault self reason place }
     {
         Fault {
             reason,

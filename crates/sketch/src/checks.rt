@@ -1,4 +1,4 @@
-ghost use Rattle.std.specs.Prelude.{◌≡◌, ◌^◌, ◌≤◌};
+ghost use Rattle.std.specs.Prelude.{◌≡◌, ◌≤◌};
 ghost use Rattle.signs.specs.Faults.{answer};
 ghost use Rattle.model.specs.Calls.{gross_limit, mass, booking_check};
 

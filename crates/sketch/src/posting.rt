@@ -1,7 +1,4 @@
-ghost use Rattle.std.specs.Prelude.{◌≡◌, ◌+◌, ◌^◌, ◌≤◌, None, unsigned_abs};
-ghost use Rattle.signs.specs.Family.{interval_check};
-ghost use Rattle.model.specs.Calls.{mass, signed_mass, gains, add_each, gained_tally, tables_check};
-ghost use Rattle.sketch.specs.Promises.{tally_of, open_state, Enters, Posts, Holds};
+ghost use Rattle.sketch.specs.Promises.{open_state, Posts, Holds};
 
 use crate::seeded::Seeded;
 use crate::{HeldSketch, OpenSketch, Refused};

@@ -1,4 +1,4 @@
-ghost use Rattle.std.specs.Prelude.{◌≡◌, ℕ, ◌+◌, ◌^◌, ◌<◌, ◌≤◌, None, length, slice_index, unsigned_abs};
+ghost use Rattle.std.specs.Prelude.{◌≡◌, ℕ, ◌+◌, ◌^◌, ◌<◌, ◌≤◌, None, length, slice_index};
 ghost use Rattle.signs.specs.Faults.{answer};
 ghost use Rattle.signs.specs.Family.{interval_check};
 ghost use Rattle.model.specs.Calls.{AreWithinLimit, gross_limit, IsLight, mass, signed_mass, gains, add_each, gained_tally, tables_check, open_refusal};

@@ -1,4 +1,4 @@
-ghost use Rattle.std.specs.Prelude.{◌≡◌, ◌+◌, ◌^◌, ◌≤◌, unsigned_abs};
+ghost use Rattle.std.specs.Prelude.{◌≡◌, ◌+◌, ◌≤◌, unsigned_abs};
 ghost use Rattle.model.specs.Calls.{entries, gained_tally, gross_limit};
 ghost use Rattle.sketch.specs.Promises.{tally_of};
 

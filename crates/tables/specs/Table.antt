@@ -4,8 +4,8 @@ use Rattle.model.specs.Calls.{seed_table, own_table, other_table, totals_table}
 use Rattle.tables.specs.declared.Table.{Table}
 use Rattle.tables.specs.declared.Table.TheVariants.{Seeds, OwnCells, OtherCells, Totals}
 
-abbrev pub number_of : Table → ℕ
-number_of Seeds = seed_table
-number_of OwnCells = own_table
-number_of OtherCells = other_table
-number_of Totals = totals_table
+abbrev pub table_number : Table → ℕ
+table_number Seeds = seed_table
+table_number OwnCells = own_table
+table_number OtherCells = other_table
+table_number Totals = totals_table

@@ -5,7 +5,7 @@
 ghost use Rattle.std.specs.Prelude.{◌≡◌, nat_le, nat_lt, position, unsigned_abs};
 ghost use Rattle.signs.specs.Faults.{answer};
 ghost use Rattle.model.specs.Calls.{shape_check, same_shape_check, length_check, seeds_check, cells_check, limit_check};
-ghost use Rattle.tables.specs.Table.{number_of};
+ghost use Rattle.tables.specs.Table.{table_number};
 
 use model::Shape;
 use signs::{Fault, Layer, Reason, SignFamily};
@@ -20,7 +20,7 @@ pub enum Table {
 }
 
 impl From<Table> for u64 {
-    ghost from_gives = { λ table n. n ≡ number_of table };
+    ghost from_gives = { λ table n. n ≡ table_number table };
 
     fn from(table: Table) -> u64 {
         table as u64

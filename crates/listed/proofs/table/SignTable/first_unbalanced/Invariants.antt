@@ -1,7 +1,7 @@
 use Rattle.std.proofs.Common.{◌≡◌, None}
 use Rattle.signs.specs.Faults.{check_each}
 use Rattle.listed.specs.Listed.{pair_check, column_check}
-use Rattle.listed.proofs.table.Table.first_unbalanced.Given as goal
+use Rattle.listed.proofs.table.SignTable.first_unbalanced.Given as goal
 
 -- the columns passed are balanced with all after them
 abbrev pub invariant-loop-a : goal.invariant-loop-a

@@ -7,7 +7,7 @@ use Rattle.std.specs.List.{filter, range_with_len, count_by}
 use Rattle.signs.specs.Sums.{count}
 use Rattle.signs.specs.Family.{alike}
 use Rattle.listed.specs.Listed.{listed}
-use Rattle.listed.proofs.table.Table.agreeing_rows.Goals as goal
+use Rattle.listed.proofs.table.SignTable.agreeing_rows.Goals as goal
 
 -- the numbers below n that pass a test, counted one after another and counted in their list
 

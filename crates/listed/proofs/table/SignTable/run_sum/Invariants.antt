@@ -1,7 +1,7 @@
 use Rattle.std.proofs.Common.{◌≡◌}
 use Rattle.signs.specs.Family.{sign_sum}
 use Rattle.listed.specs.Listed.{listed}
-use Rattle.listed.proofs.table.Table.run_sum.Given as goal
+use Rattle.listed.proofs.table.SignTable.run_sum.Given as goal
 
 -- the total so far is that of the columns passed
 abbrev pub invariant-loop-byte : goal.invariant-loop-byte

@@ -7,7 +7,7 @@ use Rattle.signs.specs.Family.{agreeing}
 use Rattle.signs.proofs.Entries.{each_none, each_more, each_all, each_hit}
 use Rattle.listed.specs.Listed.{listed, pair_check}
 use Rattle.std.proofs.lemmas.Bool.Decides.{nat_tests}
-use Rattle.listed.proofs.table.Table.first_unbalanced.Goals as goal
+use Rattle.listed.proofs.table.SignTable.first_unbalanced.Goals as goal
 
 module _ (n m : ℕ) (t : List ℕ) (a b : ℕ) where
   pair_turned : b ≤ a → pair_check n m t a b ≡ None

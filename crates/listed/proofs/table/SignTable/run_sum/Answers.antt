@@ -5,7 +5,7 @@ use Rattle.signs.specs.Family.{value}
 use Rattle.signs.specs.SumsLemmas.{sum_none, sum_plus_one, signs_abs, value_abs}
 use Rattle.std.proofs.lemmas.Grind.{common_steps}
 use Rattle.listed.specs.Listed.{listed}
-use Rattle.listed.proofs.table.Table.run_sum.Goals as goal
+use Rattle.listed.proofs.table.SignTable.run_sum.Goals as goal
 
 pub loop-byte-init : goal.loop-byte-init
 loop-byte-init c = sym (sum_none _)

@@ -25,7 +25,7 @@ fn answer(alloc: Global, line: &str, current: &mut Option<Family>) -> Result<Ans
         question => Question::from_words(question)?,
     };
     let family = current.as_ref().ok_or(LineError::Unknown)?;
-    Ok(family.answer(question)?)
+    Ok(question.ask(family)?)
 }
 
 fn main(rt: HostRuntime) -> io::Result<()> {

@@ -69,6 +69,10 @@ pub(crate) fn bytes_of(alloc: Global, word: &str) -> Result<Vec<u8>, LineError> 
     if word == "-" {
         return Ok(Vec::new(alloc));
     }
+    // Before any byte is kept: a word that is refused for its length alone takes no memory.
+    if word.len() % 2 != 0 {
+        return Err(LineError::Unknown);
+    }
     word.as_bytes()
         .chunks(2)
         .map(|digits| byte_of(digits).ok_or(LineError::Unknown))

@@ -10,7 +10,7 @@ use Rattle.signs.specs.SumsLemmas.{count_ext}
 use Rattle.listed.specs.Listed.{listed, pair_check, column_check, columns_check}
 
 -- two columns that are not refused have equal signs in half of the rows
-pair_half : (n m : ℕ) (t : List ℕ) (a b : ℕ) → a < b → pair_check n m t a b ≡ None → 2 * agreeing (listed n m t) a b ≡ m
+pub pair_half : (n m : ℕ) (t : List ℕ) (a b : ℕ) → a < b → pair_check n m t a b ≡ None → 2 * agreeing (listed n m t) a b ≡ m
 pair_half n m t a b l e = grind (arith, nat_tests)
 
 alike_turned : (x y : Sign) → alike x y ≡ alike y x

@@ -1,32 +1,27 @@
-use Rattle.std.proofs.Common.{◌≡◌, ℕ, zero, suc, ◌+◌, Bool, cond, length, map, sym, refl, ap, ◌∙◌, arith, rules, tests, map-id, add-one}
-use Rattle.std.proofs.lemmas.Iterator.{YieldsList-from_range}
-use Rattle.std.proofs.lemmas.Iterator.Consumers.{YieldsList-from_filter, count_from_yields_List}
-use Rattle.std.proofs.lemmas.List.Sums.{length-filter}
-use Rattle.std.proofs.lemmas.List.FromFn.{sum_by-map-range_with_len_more}
-use Rattle.std.specs.List.{filter, range_with_len, count_by}
+use Rattle.std.proofs.Common.{◌≡◌, ℕ, ◌+◌, ◌≤◌, Bool, cond, refl, sym, ap, ap₂, ◌∙◌, add-one, arith}
+use Rattle.std.proofs.lemmas.Grind.{common_steps}
 use Rattle.signs.specs.Sums.{count}
 use Rattle.signs.specs.Family.{alike}
-use Rattle.listed.specs.Listed.{listed}
+use Rattle.listed.specs.SignTable.{family_of}
 use Rattle.listed.proofs.table.SignTable.agreeing_rows.Goals as goal
 
--- the numbers below n that pass a test, counted one after another and counted in their list
-
-counted : (n : ℕ) (p : ℕ → Bool) → count_by p (map (λ x. x) (range_with_len 0 n)) ≡ count n p
+pub loop-row-init : goal.loop-row-init
 unfolding count
-counted zero p = refl
-counted (suc n) p =
-    ap (λ k. count_by p (map (λ x. x) (range_with_len 0 k))) (sym (add-one n))
-    ∙ sum_by-map-range_with_len_more (λ x. cond (p x) 1 0) (λ x. x) 0 n n (omega arith) ∙ ap (λ k. k + cond (p n) 1 0) (counted n p)
+loop-row-init c = (refl, omega arith)
 
-length-filter-range : (n : ℕ) (p : ℕ → Bool) → length (filter p (range_with_len 0 n)) ≡ count n p
-length-filter-range n p = length-filter p (range_with_len 0 n) ∙ ap (count_by p) (sym (map-id (range_with_len 0 n))) ∙ counted n p
+-- one row more
+count_more : (s : ℕ) (p : ℕ → Bool) → count (s + 1) p ≡ count s p + cond (p s) 1 0
+unfolding count
+count_more s p = ap (λ x. count x p) (add-one s)
 
-pub returns : goal.returns
-returns c =
-    let t = c.args.self.now in
-    let F = listed t.width t.rows t.bytes.items in
+cond_le : (t : Bool) → cond t 1 0 ≤ 1
+cond_le t = grind arith
+
+pub loop-row-preserved : goal.loop-row-preserved
+loop-row-preserved c =
+    let F = family_of c.args.self.now in
     let p : ℕ → Bool = λ s. alike (F.sign s c.args.a) (F.sign s c.args.b) in
-    let rows = YieldsList-from_range 0 t.rows t.rows c.filter.ensures.source (omega arith) in
-    count_from_yields_List c.filter.result c.count.result c.count.ensures.ran
-    (YieldsList-from_filter _ p rows c.filter.ensures.closure (λ x b q k. search (rules, tests)))
-    ∙ length-filter-range t.rows p
+    let s = c.loop-row.row in
+    let more : c.from-count.result ≡ cond (p s) 1 0 = grind (arith, common_steps) in
+    let few : c.from-count.result ≤ 1 = omega (arith, cond_le (p s)) in
+    (ap₂ (λ x y. x + y) c.loop-row.invariant.0 more ∙ sym (count_more s p), omega (arith, c.loop-row.invariant.1))

@@ -4,7 +4,7 @@ use parity::{Bch3, Eh3};
 use signs::{Block, Fault, Offset, Sign, SignFamily};
 use std::alloc::Global;
 
-/// The offset layers that words ask for, the first one innermost.
+// The offset layers that words ask for, the first one innermost.
 #[derive(Clone, Copy)]
 enum Layers {
     Plain,

@@ -1,12 +1,12 @@
-use Rattle.std.proofs.Common.{◌≡◌, ℕ, zero, suc, Bool, ◌≤◌, ◌<◌, ◌≢◌, List, Some, None, ◌+◌, ◌*◌, ◌^◌, sym, ap, ◌∙◌, arith}
+use Rattle.std.proofs.Common.{◌≡◌, ℕ, ◌≤◌, ◌<◌, ◌≢◌, List, Some, None, ◌+◌, ◌*◌, ◌^◌, sym, ap, ◌∙◌, arith}
 use Rattle.std.proofs.lemmas.Nat.{one_shl}
 use Rattle.signs.specs.declared.reason.Reason.TheVariants.{Unbalanced}
 use Rattle.signs.specs.Faults.{check_each, family_fault}
-use Rattle.signs.specs.Sums.{count}
 use Rattle.signs.specs.Family.{agreeing}
 use Rattle.signs.proofs.Entries.{each_none, each_more, each_all, each_hit}
 use Rattle.listed.specs.Listed.{listed, pair_check}
 use Rattle.std.proofs.lemmas.Bool.Decides.{nat_tests}
+use Rattle.listed.proofs.Counts.{count_le}
 use Rattle.listed.proofs.table.SignTable.first_unbalanced.Goals as goal
 
 module _ (n m : ℕ) (t : List ℕ) (a b : ℕ) where
@@ -25,11 +25,6 @@ loop-a-init c = each_none _
 -- no column is compared with itself or with one before it
 pub loop-b-init : goal.loop-b-init
 loop-b-init c = let t = c.args.self.now in each_all _ _ (λ b l. pair_turned t.width t.rows t.bytes.items c.loop-a.a b (omega arith))
-
-count_le : (n : ℕ) (p : ℕ → Bool) → count n p ≤ n
-unfolding count
-count_le zero p = omega arith
-count_le (suc n) p = grind (arith, nat_tests, count_le n p)
 
 pub overflow_mul-agreeing_rows : goal.overflow_mul-agreeing_rows
 overflow_mul-agreeing_rows c = omega (arith, count_le, c.agreeing_rows.ensures)

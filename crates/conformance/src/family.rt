@@ -1,3 +1,5 @@
+ghost use Rattle.std.specs.Prelude.{◌≡◌};
+
 use crate::words::{LineError, bytes_of};
 use listed::Listed;
 use parity::{Bch3, Eh3};
@@ -13,6 +15,8 @@ enum Layers {
 }
 
 impl Layers {
+    ghost use Rattle.conformance.specs.Layers.{layered, laid_over};
+
     // `offset NUMBER` for each layer, of at most two.
     fn from_words(words: &[&str]) -> Result<Layers, LineError> {
         match words {
@@ -26,7 +30,9 @@ impl Layers {
     }
 
     // These layers over a family.
-    fn over<F>(self, family: F) -> Layered<F> {
+    fn over<F: SignFamily>(self, family: F) -> Layered<F>
+        ensures { layered F.meaning result ≡ laid_over self (F.meaning family) }
+    {
         match self {
             Layers::Plain => Layered::Plain(family),
             Layers::Once(first) => Layered::Once(Offset::new(family, first)),
